@@ -1,0 +1,35 @@
+-- The laws of the definitions, in reading order.
+
+-- lists, tests, counts
+pub mod Lists
+pub mod Members
+pub mod Sets
+pub mod Proper
+-- strength
+pub mod Peeling
+pub mod Rounds
+-- chains, components, the forest
+pub mod Chains
+pub mod Components
+pub mod Connected
+-- groups and their tree
+pub mod Groups
+pub mod Stored
+pub mod Tree
+pub mod ForestPaths
+pub mod Meaning
+-- the two files
+pub mod Ordering
+pub mod Accepted
+pub mod Decoding
+-- demand 3; the reader
+pub mod Agree
+pub mod Demand3
+pub mod Reading
+-- the order in which a program writes joins and groups
+pub mod JoinOrder
+pub mod GroupOrder
+-- bounds
+pub mod Bound
+pub mod Size
+pub mod Bytes

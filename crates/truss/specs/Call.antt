@@ -1,0 +1,137 @@
+-- Whole calls: what each gives back and every lent byte afterwards, from its arguments and the lent bytes alone.
+use mathlib.Core.List.{List, [], _∷_, _++_}
+use Prim.Native.Nat.{ℕ, suc, _+_, _*_, _/_, _%_, min}
+use lib.Dec.{ltb}
+use lib.ListN.{length, drop}
+use Rattle.truss.specs.Limits.{maxTally, tallyLength}
+use Rattle.truss.specs.Lists.{concatMap}
+use Rattle.truss.specs.Graph.{graphOf}
+use Rattle.truss.specs.Refusal.{Refusal, Checked, passed, refused, refuseIf, andThen, mapPassed}
+use Rattle.truss.specs.Record.{field, byteAt}
+use Rattle.truss.specs.LinksFile.{Links, graphOfLinks, readLinks, readBack}
+use Rattle.truss.specs.Index.{indexBytes}
+use Rattle.truss.specs.IndexFile.{readIndex}
+use Rattle.truss.specs.Question.{Question, Answer, number, numbers, answer}
+
+-- The four numbers of a reply, as the C host gets them: refusal 0 is done, with a value; else the refusal's number, with its place as the value.
+pub record Reply : Type 0 where
+  pub refusal : ℕ
+  pub value : ℕ
+  pub second : ℕ
+  pub third : ℕ
+
+abbrev pub done : ℕ → Reply
+done x = record { refusal = 0; value = x; second = 0; third = 0 }
+
+abbrev pub notDone : Refusal → Reply
+notDone r = record { refusal = r .number; value = r .place; second = 0; third = 0 }
+
+-- 12: "the whole result is longer than the buffer lent for it"
+abbrev pub withRoom : {A : Type 0} → List ℕ → List ℕ → A → Checked A
+withRoom result buffer x = refuseIf (ltb (length buffer) (length result)) 12 0 (passed x)
+
+-- "Bytes of a lent buffer after any result, an index or links file too, stay."
+abbrev pub overwrite : List ℕ → List ℕ → List ℕ
+overwrite result buffer = result ++ drop (length result) buffer
+
+-- ---- building and reading back
+
+pub record Written : Type 0 where
+  pub reply : Reply
+  pub buffer : List ℕ
+
+-- the value is the number of bytes written; refused: "All lent memory keeps its bytes."
+unfoldable pub write : Checked (List ℕ) → List ℕ → Written
+write (passed result) buffer = record { reply = done (length result); buffer = overwrite result buffer }
+write (refused r) buffer = record { reply = notDone r; buffer = buffer }
+
+unfoldable pub checkRoom : Checked (List ℕ) → List ℕ → Checked (List ℕ)
+unfolding andThen
+checkRoom result buffer = andThen result (λ b. withRoom b buffer b)
+
+-- the index of what an accepted links file names
+abbrev pub indexOf : Links → List ℕ
+unfolding graphOf indexBytes
+indexOf l = indexBytes (graphOfLinks l)
+
+-- build: a links file into its index. "A build meets 12 after 1 to 6"
+unfoldable pub build : List ℕ → List ℕ → Written
+unfolding write checkRoom mapPassed indexBytes graphOf readLinks
+build file buffer = write (checkRoom (mapPassed indexOf (readLinks file)) buffer) buffer
+
+-- read: an index back into a links file. "a reading after 7"
+unfoldable pub read : List ℕ → List ℕ → Written
+unfolding write checkRoom mapPassed readBack readIndex
+read bytes buffer = write (checkRoom (mapPassed readBack (readIndex bytes)) buffer) buffer
+
+-- ---- questions
+
+-- "C to F write a two-byte count, then that many two-byte group numbers (F: link numbers), rising." A and B write nothing.
+unfoldable pub answerBytes : Answer → List ℕ
+unfolding concatMap
+answerBytes (number x) = []
+answerBytes (numbers xs) = field (length xs) ++ concatMap field xs
+
+-- the value of the reply: the answer of A and B, the number of bytes written by C to F
+unfoldable pub answerValue : Answer → ℕ
+unfolding answerBytes
+answerValue (number x) = x
+answerValue (numbers xs) = length (answerBytes (numbers xs))
+
+-- "A question is checked as 7, 8, 9, 10, 11, 12, those that apply."
+unfoldable pub checkedAnswer : List ℕ → Question → List ℕ → Checked Answer
+unfolding andThen readIndex answer answerBytes
+checkedAnswer bytes q buffer = andThen (readIndex bytes) (λ G. andThen (answer G q) (λ a. withRoom (answerBytes a) buffer a))
+
+-- "one more when answered, unmoved when refused, and resting at 4,294,967,295"
+abbrev pub nextTally : ℕ → ℕ
+nextTally t = min (suc t) maxTally
+
+pub record Asked : Type 0 where
+  pub reply : Reply
+  pub buffer : List ℕ
+  pub tally : ℕ
+
+unfoldable pub settle : Checked Answer → List ℕ → ℕ → Asked
+unfolding answerBytes answerValue
+settle (passed a) buffer t = record { reply = done (answerValue a); buffer = overwrite (answerBytes a) buffer; tally = nextTally t }
+settle (refused r) buffer t = record { reply = notDone r; buffer = buffer; tally = t }
+
+-- a question on the bytes of an index, with a lent answer buffer and the desk's tally
+unfoldable pub ask : List ℕ → Question → List ℕ → ℕ → Asked
+unfolding settle checkedAnswer
+ask bytes q buffer t = settle (checkedAnswer bytes q buffer) buffer t
+
+-- ---- the desk record as bytes
+
+-- "A call from C lends the record as bytes, four to a tally, high byte first"
+abbrev pub tallyBytes : ℕ → List ℕ
+tallyBytes t = t / 16777216 % 256 ∷ t / 65536 % 256 ∷ t / 256 % 256 ∷ t % 256 ∷ []
+
+abbrev pub tallyIn : List ℕ → ℕ
+tallyIn d = byteAt d 0 * 16777216 + byteAt d 1 * 65536 + byteAt d 2 * 256 + byteAt d 3
+
+pub record AskedBytes : Type 0 where
+  pub reply : Reply
+  pub buffer : List ℕ
+  pub desk : List ℕ
+
+-- "too few are 12": the last check
+unfoldable pub checkDesk : Checked Answer → List ℕ → Checked Answer
+unfolding andThen
+checkDesk a desk = andThen a (λ x. refuseIf (ltb (length desk) tallyLength) 12 0 (passed x))
+
+unfoldable pub settleBytes : Checked Answer → List ℕ → List ℕ → AskedBytes
+unfolding answerBytes answerValue
+settleBytes (passed a) buffer desk =
+    record {
+      reply = done (answerValue a);
+      buffer = overwrite (answerBytes a) buffer;
+      desk = overwrite (tallyBytes (nextTally (tallyIn desk))) desk;
+    }
+settleBytes (refused r) buffer desk = record { reply = notDone r; buffer = buffer; desk = desk }
+
+-- the same question from a host that lends the desk record as bytes
+unfoldable pub askBytes : List ℕ → Question → List ℕ → List ℕ → AskedBytes
+unfolding settleBytes checkDesk checkedAnswer
+askBytes bytes q buffer desk = settleBytes (checkDesk (checkedAnswer bytes q buffer) desk) buffer desk

@@ -1,0 +1,86 @@
+-- Whole calls, held by computation: replies, places, every lent byte, the tally, and the text of both programs.
+use mathlib.Core.Path.{_≡_, refl}
+use mathlib.Core.List.{List, [], _∷_, _++_}
+use Prim.Native.Nat.{ℕ}
+use Rattle.truss.specs.Graph.{graphOf}
+use Rattle.truss.specs.LinksFile.{writeLinks}
+use Rattle.truss.specs.Question.{ask-strength, ask-joined, ask-groups-at, ask-strongest, ask-all, ask-links}
+use Rattle.truss.specs.Call.{build, read, ask, askBytes, done}
+use Rattle.truss.specs.Listing.{lister, builder}
+use Rattle.truss.specs.Cards.{pair, file, headOnly, accounts, pairsA, indexA, indexB, indexT}
+
+record CallCases : Type 0 where
+  -- build: the index over the front of the buffer, the bytes after it stay; 12 only for a buffer that is too short, after 1 to 6
+  build-tail : build (headOnly 1) (9 ∷ 9 ∷ 9 ∷ 9 ∷ 9 ∷ 9 ∷ 9 ∷ []) ≡ record { reply = done 6; buffer = 1 ∷ 0 ∷ 1 ∷ 0 ∷ 0 ∷ 5 ∷ 9 ∷ [] }
+  build-exact : build (headOnly 1) (9 ∷ 9 ∷ 9 ∷ 9 ∷ 9 ∷ 9 ∷ []) ≡ record { reply = done 6; buffer = 1 ∷ 0 ∷ 1 ∷ 0 ∷ 0 ∷ 5 ∷ [] }
+  build-short : build (headOnly 1) (9 ∷ 9 ∷ 9 ∷ 9 ∷ 9 ∷ []) ≡ record { reply = record { refusal = 12; value = 0; second = 0; third = 0 }; buffer = 9 ∷ 9 ∷ 9 ∷ 9 ∷ 9 ∷ [] }
+  build-refused : build (file 5 1 (pair 3 3 ∷ []) (5 ∷ [])) (9 ∷ []) ≡ record { reply = record { refusal = 5; value = 5; second = 0; third = 0 }; buffer = 9 ∷ [] }
+  build-A : build (writeLinks 5 pairsA) (indexB ++ (9 ∷ [])) .reply ≡ done 84
+  -- read: 7 only for bytes that are no index, 12 after it
+  read-tail : read (headOnly 1) (9 ∷ 9 ∷ 9 ∷ 9 ∷ 9 ∷ 9 ∷ 9 ∷ []) ≡ record { reply = done 6; buffer = 1 ∷ 0 ∷ 1 ∷ 0 ∷ 0 ∷ 5 ∷ 9 ∷ [] }
+  read-A : read indexA indexA .reply ≡ done 36
+  read-short : read (headOnly 1) (9 ∷ []) ≡ record { reply = record { refusal = 12; value = 0; second = 0; third = 0 }; buffer = 9 ∷ [] }
+  read-refused : read (headOnly 1 ++ (5 ∷ [])) (9 ∷ []) ≡ record { reply = record { refusal = 7; value = 0; second = 0; third = 0 }; buffer = 9 ∷ [] }
+  read-links-file : read (writeLinks 5 pairsA) [] ≡ record { reply = record { refusal = 7; value = 0; second = 0; third = 0 }; buffer = [] }
+  -- a question: the reply, the answer buffer, the tally
+  counted : ask indexT (ask-strength 1 0) (9 ∷ []) 7 ≡ record { reply = done 3; buffer = 9 ∷ []; tally = 8 }
+  at-rest : ask indexT (ask-strength 1 0) [] 4_294_967_295 ≡ record { reply = done 3; buffer = []; tally = 4_294_967_295 }
+  refused-not-counted : ask indexT (ask-strength 0 3) (9 ∷ []) 7
+      ≡ record { reply = record { refusal = 9; value = 0; second = 0; third = 0 }; buffer = 9 ∷ []; tally = 7 }
+  no-index-first : ask (headOnly 1 ++ (5 ∷ [])) (ask-all []) [] 7 ≡ record { reply = record { refusal = 7; value = 0; second = 0; third = 0 }; buffer = []; tally = 7 }
+  list-written : ask indexT (ask-all (accounts (2 ∷ []))) (9 ∷ 9 ∷ 9 ∷ 9 ∷ 9 ∷ []) 7 ≡ record { reply = done 4; buffer = 0 ∷ 1 ∷ 0 ∷ 0 ∷ 9 ∷ []; tally = 8 }
+  list-exact : ask indexT (ask-strongest (accounts (2 ∷ []))) (9 ∷ 9 ∷ 9 ∷ 9 ∷ []) 7 ≡ record { reply = done 4; buffer = 0 ∷ 1 ∷ 0 ∷ 0 ∷ []; tally = 8 }
+  list-short : ask indexT (ask-all (accounts (2 ∷ []))) (9 ∷ 9 ∷ 9 ∷ []) 7
+      ≡ record { reply = record { refusal = 12; value = 0; second = 0; third = 0 }; buffer = 9 ∷ 9 ∷ 9 ∷ []; tally = 7 }
+  empty-list : ask indexT (ask-links 4 0 1) (9 ∷ 9 ∷ 9 ∷ []) 7 ≡ record { reply = done 2; buffer = 0 ∷ 0 ∷ 9 ∷ []; tally = 8 }
+  level-before-room : ask indexT (ask-links 2 0 1) [] 7 ≡ record { reply = record { refusal = 10; value = 0; second = 0; third = 0 }; buffer = []; tally = 7 }
+  B-3-at-4 : ask indexB (ask-groups-at 4 (accounts (3 ∷ []))) (9 ∷ 9 ∷ 9 ∷ 9 ∷ 9 ∷ 9 ∷ 9 ∷ []) 0
+      ≡ record { reply = done 6; buffer = 0 ∷ 2 ∷ 0 ∷ 0 ∷ 0 ∷ 1 ∷ 9 ∷ []; tally = 1 }
+  B-2-3-and-3-4 : ask indexB (ask-joined 3 2 4 3) [] 0 ≡ record { reply = done 3; buffer = []; tally = 1 }
+  -- the desk as bytes: high byte first, bytes beyond stay, too few are 12 and checked last
+  desk-bytes : askBytes indexT (ask-strength 0 1) [] (0 ∷ 0 ∷ 0 ∷ 255 ∷ 9 ∷ []) ≡ record { reply = done 3; buffer = []; desk = 0 ∷ 0 ∷ 1 ∷ 0 ∷ 9 ∷ [] }
+  desk-at-rest : askBytes indexT (ask-strength 0 1) [] (255 ∷ 255 ∷ 255 ∷ 255 ∷ []) ≡ record { reply = done 3; buffer = []; desk = 255 ∷ 255 ∷ 255 ∷ 255 ∷ [] }
+  desk-refused : askBytes indexT (ask-strength 0 0) [] (0 ∷ 0 ∷ 0 ∷ 7 ∷ []) ≡ record { reply = record { refusal = 11; value = 0; second = 0; third = 0 }; buffer = []; desk = 0 ∷ 0 ∷ 0 ∷ 7 ∷ [] }
+  desk-short : askBytes indexT (ask-all (accounts (2 ∷ []))) (9 ∷ 9 ∷ 9 ∷ 9 ∷ []) (0 ∷ 0 ∷ 0 ∷ [])
+      ≡ record { reply = record { refusal = 12; value = 0; second = 0; third = 0 }; buffer = 9 ∷ 9 ∷ 9 ∷ 9 ∷ []; desk = 0 ∷ 0 ∷ 0 ∷ [] }
+  desk-last : askBytes indexT (ask-strength 0 3) [] [] ≡ record { reply = record { refusal = 9; value = 0; second = 0; third = 0 }; buffer = []; desk = [] }
+  -- the programs' text: `refused 7`, `groups 0`, `refused 5 5`
+  lister-refused : lister [] ≡ 0x72 ∷ 0x65 ∷ 0x66 ∷ 0x75 ∷ 0x73 ∷ 0x65 ∷ 0x64 ∷ 0x20 ∷ 0x37 ∷ 0x0A ∷ []
+  lister-no-groups : lister (headOnly 1) ≡ 0x67 ∷ 0x72 ∷ 0x6F ∷ 0x75 ∷ 0x70 ∷ 0x73 ∷ 0x20 ∷ 0x30 ∷ 0x0A ∷ []
+  builder-A : builder (writeLinks 5 pairsA) ≡ indexA
+  builder-refused : builder (file 5 1 (pair 3 3 ∷ []) (5 ∷ [])) ≡ 0x72 ∷ 0x65 ∷ 0x66 ∷ 0x75 ∷ 0x73 ∷ 0x65 ∷ 0x64 ∷ 0x20 ∷ 0x35 ∷ 0x20 ∷ 0x35 ∷ 0x0A ∷ []
+
+call-cases : CallCases
+unfolding indexT indexB indexA pairsA pair file headOnly accounts writeLinks build read ask askBytes lister builder
+call-cases = record {
+  build-tail = refl;
+  build-exact = refl;
+  build-short = refl;
+  build-refused = refl;
+  build-A = refl;
+  read-tail = refl;
+  read-A = refl;
+  read-short = refl;
+  read-refused = refl;
+  read-links-file = refl;
+  counted = refl;
+  at-rest = refl;
+  refused-not-counted = refl;
+  no-index-first = refl;
+  list-written = refl;
+  list-exact = refl;
+  list-short = refl;
+  empty-list = refl;
+  level-before-room = refl;
+  B-3-at-4 = refl;
+  B-2-3-and-3-4 = refl;
+  desk-bytes = refl;
+  desk-at-rest = refl;
+  desk-refused = refl;
+  desk-short = refl;
+  desk-last = refl;
+  lister-refused = refl;
+  lister-no-groups = refl;
+  builder-A = refl;
+  builder-refused = refl;
+}

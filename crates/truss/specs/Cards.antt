@@ -1,0 +1,104 @@
+-- The cards of the worked cases.
+use mathlib.Core.List.{List, [], _∷_, _++_}
+use Prim.Native.Nat.{ℕ}
+use Rattle.truss.specs.Lists.{concatMap}
+use Rattle.truss.specs.Graph.{Pair, Graph, graphOf}
+use Rattle.truss.specs.Record.{kindHead, field, headBytes, endBytes}
+use Rattle.truss.specs.LinksFile.{pairBytes, writeLinks}
+use Rattle.truss.specs.Index.{indexBytes}
+
+unfoldable pub pair : ℕ → ℕ → Pair
+pair a b = record { first = a; second = b }
+
+-- a links file whose head says n and m, with these pairs and these bytes at the end
+unfoldable pub file : ℕ → ℕ → List Pair → List ℕ → List ℕ
+unfolding concatMap
+file n m ps end = headBytes kindHead n m ++ (concatMap pairBytes ps ++ end)
+
+-- a head with no links, and the end
+unfoldable pub headOnly : ℕ → List ℕ
+headOnly n = headBytes kindHead n 0 ++ endBytes
+
+-- accounts as a question is lent them
+unfoldable pub accounts : List ℕ → List ℕ
+unfolding concatMap
+accounts vs = concatMap field vs
+
+-- Card A: "n = 5; links 0-1, 0-2, 1-2, 1-3, 2-3, 3-4"
+unfoldable pub pairsA : List Pair
+unfolding pair
+pairsA = pair 0 1 ∷ pair 0 2 ∷ pair 1 2 ∷ pair 1 3 ∷ pair 2 3 ∷ pair 3 4 ∷ []
+
+-- the same pairs in another order, some with the higher account first
+unfoldable pub pairsA′ : List Pair
+unfolding pair
+pairsA′ = pair 3 4 ∷ pair 3 2 ∷ pair 0 1 ∷ pair 2 0 ∷ pair 3 1 ∷ pair 1 2 ∷ []
+
+unfoldable pub graphA : Graph
+unfolding pairsA graphOf
+graphA = graphOf 5 pairsA
+
+-- "index 84:"
+unfoldable pub indexA : List ℕ
+indexA =
+    0x01 ∷ 0x00 ∷ 0x05 ∷ 0x00 ∷ 0x06
+    ∷ 0x02 ∷ 0x00 ∷ 0x00 ∷ 0x00 ∷ 0x01 ∷ 0x03 ∷ 0x00 ∷ 0x00
+    ∷ 0x02 ∷ 0x00 ∷ 0x00 ∷ 0x00 ∷ 0x02 ∷ 0x03 ∷ 0x00 ∷ 0x00
+    ∷ 0x02 ∷ 0x00 ∷ 0x01 ∷ 0x00 ∷ 0x02 ∷ 0x03 ∷ 0x00 ∷ 0x00
+    ∷ 0x02 ∷ 0x00 ∷ 0x01 ∷ 0x00 ∷ 0x03 ∷ 0x03 ∷ 0x00 ∷ 0x00
+    ∷ 0x02 ∷ 0x00 ∷ 0x02 ∷ 0x00 ∷ 0x03 ∷ 0x03 ∷ 0x00 ∷ 0x00
+    ∷ 0x02 ∷ 0x00 ∷ 0x03 ∷ 0x00 ∷ 0x04 ∷ 0x02 ∷ 0xFF ∷ 0xFF
+    ∷ 0x03 ∷ 0x00 ∷ 0x00 ∷ 0x00 ∷ 0x01 ∷ 0x03
+    ∷ 0x03 ∷ 0x00 ∷ 0x00 ∷ 0x00 ∷ 0x02 ∷ 0x03
+    ∷ 0x03 ∷ 0x00 ∷ 0x02 ∷ 0x00 ∷ 0x03 ∷ 0x03
+    ∷ 0x03 ∷ 0x00 ∷ 0x02 ∷ 0x00 ∷ 0x04 ∷ 0x03
+    ∷ 0x04 ∷ 0xFF ∷ 0xFF ∷ 0x03 ∷ 0x00 ∷ 0x00
+    ∷ 0x05 ∷ []
+
+-- Card B: "n = 7; all pairs of {0,1,2,3}, all pairs of {3,4,5,6}, and 2-4"
+unfoldable pub graphB : Graph
+unfolding pair graphOf
+graphB =
+    graphOf 7
+    (pair 0 1 ∷ pair 0 2 ∷ pair 0 3 ∷ pair 1 2 ∷ pair 1 3 ∷ pair 2 3 ∷ pair 3 4 ∷ pair 3 5 ∷ pair 3 6 ∷ pair 4 5 ∷ pair 4 6 ∷ pair 5 6 ∷ pair 2 4 ∷ [])
+
+unfoldable pub indexB : List ℕ
+unfolding graphB indexBytes
+indexB = indexBytes graphB
+
+-- two triangles that share account 2
+unfoldable pub bowTie : Graph
+unfolding pair graphOf
+bowTie = graphOf 5 (pair 0 1 ∷ pair 0 2 ∷ pair 1 2 ∷ pair 2 3 ∷ pair 2 4 ∷ pair 3 4 ∷ [])
+
+-- all pairs of five
+unfoldable pub five : Graph
+unfolding pair graphOf
+five = graphOf 5 (pair 0 1 ∷ pair 0 2 ∷ pair 0 3 ∷ pair 0 4 ∷ pair 1 2 ∷ pair 1 3 ∷ pair 1 4 ∷ pair 2 3 ∷ pair 2 4 ∷ pair 3 4 ∷ [])
+
+-- three groups, one in the other: all pairs of {0,1,2,3,4}; 5 with 0, 1, 2; 6 with 0, 1; and 7, an account without links
+unfoldable pub nested : Graph
+unfolding pair graphOf
+nested =
+    graphOf 8
+    (pair 0 1 ∷ pair 0 2 ∷ pair 0 3 ∷ pair 0 4 ∷ pair 1 2 ∷ pair 1 3 ∷ pair 1 4 ∷ pair 2 3 ∷ pair 2 4 ∷ pair 3 4
+    ∷ pair 0 5 ∷ pair 1 5 ∷ pair 2 5 ∷ pair 0 6 ∷ pair 1 6 ∷ [])
+
+-- two triangles that share a link: tells the order of joins of equal weight
+unfoldable pub kite : Graph
+unfolding pair graphOf
+kite = graphOf 4 (pair 0 1 ∷ pair 0 2 ∷ pair 0 3 ∷ pair 1 2 ∷ pair 2 3 ∷ [])
+
+-- two triangles apart, 0-3-4 and 1-2-5, of which the first has both the least and the greatest link: tells the order of groups of equal strength
+unfoldable pub twoApart : Graph
+unfolding pair graphOf
+twoApart = graphOf 6 (pair 0 3 ∷ pair 0 4 ∷ pair 3 4 ∷ pair 1 2 ∷ pair 1 5 ∷ pair 2 5 ∷ [])
+
+-- one triangle, and its index of 48 bytes
+unfoldable pub triangle : Graph
+unfolding pair graphOf
+triangle = graphOf 3 (pair 2 0 ∷ pair 0 1 ∷ pair 2 1 ∷ [])
+
+unfoldable pub indexT : List ℕ
+unfolding triangle indexBytes
+indexT = indexBytes triangle

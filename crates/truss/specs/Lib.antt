@@ -1,0 +1,27 @@
+-- What the linked-account index means: every definition that a reader must believe, in the order of document 01. No code and no laws.
+-- Bytes and numbers are natural numbers, so each definition holds of any list of numbers; a list of bytes is one whose numbers are below 256.
+pub mod Limits
+pub mod Lists
+-- accounts, links, triangles; strength; chains and groups
+pub mod Graph
+pub mod Strength
+pub mod Chain
+pub mod Forest
+pub mod Group
+-- the two files
+pub mod Refusal
+pub mod Record
+pub mod LinksFile
+pub mod Index
+pub mod IndexFile
+-- questions, whole calls, the two programs' text
+pub mod Question
+pub mod Call
+pub mod Listing
+-- demand 3
+pub mod Stored
+pub mod Demand3
+-- the worked cases
+pub mod Cards
+pub mod Cases
+pub mod CallCases

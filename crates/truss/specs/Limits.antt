@@ -1,0 +1,43 @@
+-- The figures of document 01, each named once. A change of a limit is a change of its line here.
+use Prim.Native.Nat.{ℕ}
+
+-- "n is 1 to 1,024, m is 0 to 2,048"
+abbrev pub maxAccounts : ℕ
+maxAccounts = 1024
+
+abbrev pub maxLinks : ℕ
+maxLinks = 2048
+
+-- "A strength runs from 2 to 64; its least and greatest value are named once." That no link of an accepted file has another strength is a
+-- theorem (laws: strength-at-least-2, strength-max) and no part of a strength's definition.
+abbrev pub minStrength : ℕ
+minStrength = 2
+
+abbrev pub maxStrength : ℕ
+maxStrength = 64
+
+-- "joined at k, for k from 3 up"; "k below 3 or above 64" is refused
+abbrev pub minLevel : ℕ
+minLevel = 3
+
+abbrev pub maxLevel : ℕ
+maxLevel = maxStrength
+
+-- "One to 16 accounts are named"
+abbrev pub maxNamed : ℕ
+maxNamed = 16
+
+-- "FFFF at strength 2", "FFFF for none": what is written for no group and for no parent
+abbrev pub noGroup : ℕ
+noGroup = 0xFFFF
+
+-- "An index is at most 40,960 bytes." A theorem (laws: index-room), used in no definition.
+abbrev pub maxIndexBytes : ℕ
+maxIndexBytes = 40960
+
+-- "resting at 4,294,967,295"; "four to a tally"
+abbrev pub maxTally : ℕ
+maxTally = 4_294_967_295
+
+abbrev pub tallyLength : ℕ
+tallyLength = 4
