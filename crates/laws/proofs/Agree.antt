@@ -11,7 +11,7 @@ use lib.Dec.{ltb, leb, leb·zero}
 use lib.ListN.{length, getD}
 use lib.Seq.{ext-getD}
 use borrow.Author.Tests.{ltb-true}
-use Rattle.truss.specs.Limits.{minLevel, maxStrength, noGroup}
+use Rattle.truss.specs.Limits.{minLevel, noGroup}
 use Rattle.truss.specs.Lists.{range, position, sort}
 use Rattle.truss.specs.Graph.{Link, Pair, Graph, Triangle, Has, link, linkOf, linksOf, linkAt, linkBefore, graphOf, linkNumber, member}
 use Rattle.truss.specs.Strength.{strength, weight}
@@ -32,7 +32,7 @@ use Rattle.laws.proofs.Stored.{groupCount, few-groups, stored-is}
 use Rattle.laws.proofs.Tree.{tree-joined, joined-tree, rows-length, row-at}
 use Rattle.laws.proofs.ForestPaths.{forest-joined, joined-forest}
 use Rattle.laws.proofs.Ordering.{sort-unique}
-use Rattle.laws.proofs.Accepted.{Named, read-named, graph-in, in-graph, graph-size, graph-proper, links-distinct}
+use Rattle.laws.proofs.Accepted.{Named, graph-in, in-graph, graph-size, graph-proper, links-distinct}
 use Rattle.laws.proofs.Decoding.{IndexFits, LinkRowFits, JoinFits, GroupRowFits, decode-encode}
 
 -- ---- the fields of an index fit two bytes
@@ -102,7 +102,7 @@ module _ (G : Graph) (proper : Proper G) (accounts : G .n ≤ 65536) (few-links 
   unfolding index
   index-fits l = record { n-fits = l; m-fits = omega arith; links-fit = link-row-fits; joins-fit = join-fits; groups-fit = group-row-fits }
 
--- the bytes of a card's index say what the index says
+-- the bytes of a graph's index say what the index says
 pub decode-index : (G : Graph) → Proper G → G .n < 65536 → size G ≤ noGroup → decode (indexBytes G) ≡ index G
 unfolding indexBytes
 decode-index G proper l few-links = decode-encode (index G) (index-fits G proper (omega arith) few-links l)

@@ -19,7 +19,7 @@ use Rattle.laws.proofs.Lists.{test, true-not-false, and-left, and-right
 use Rattle.laws.proofs.Members.{filter-in, in-filter, member-in, in-member}
 use Rattle.laws.proofs.Sets.{filter-sub-whole, filter-sub-length}
 use Rattle.laws.proofs.Ordering.{Distinct}
-use Rattle.laws.proofs.Peeling.{strength-is}
+use Rattle.laws.proofs.Peeling.{strength-is, strength-at-least-2}
 
 -- ---- how many pass: the difference that one element makes
 
@@ -348,6 +348,20 @@ module _ (G : Graph) (proper : Proper G) (different : Distinct (G .links)) where
   truss-size j S t e s =
       degree-size (G .links) different ordered (suc j) S (truss-degree j S t) (e .lo)
       (degree-pos (G .links) different ordered S (e .lo) (member-in (G .links) e (t .within e s)) s (lo-ends (G .links) different ordered e))
+
+  -- "A strength k needs k(k − 1)/2 links"
+  pub strength-needs : (e : Link) → member (G .links) e ≡ true → (strength G e - 1) * strength G e ≤ 2 * length (G .links)
+  strength-needs e m =
+      let j : ℕ = strength G e - 2 in
+      let t = strength-is G e m .reached in
+      let two = strength-at-least-2 G e m in
+      let shape : 2 + j ≡ strength G e = omega arith in
+      let links = truss-size j (t .0) (rw shape (t .1)) e (t .2) in
+      let half : 2 * triangular (suc j) ≡ suc j * (suc j + 1) = triangular-double (suc j) in
+      let a : strength G e - 1 ≡ suc j = omega arith in
+      let b : strength G e ≡ suc j + 1 = omega arith in
+      let all-links = filter-length (t .0) (G .links) in
+      rw a (subst (λ (x : ℕ). suc j * x ≤ 2 * length (G .links)) (sym b) (omega (arith, half, links, all-links)))
 
 -- ---- the greatest strength
 

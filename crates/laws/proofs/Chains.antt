@@ -53,7 +53,7 @@ module _ (G : Graph) where
 -- ---- strong triangles
 
 module _ (G : Graph) (k : ℕ) where
-  -- a triangle of the card is strong at k exactly if its weight is at least k
+  -- a triangle of the graph is strong at k exactly if its weight is at least k
   pub strong-of-weight : (t : Triangle) → IsTriangle (member (G .links)) t → k ≤ weight G t → StrongTriangle G k t
   unfolding weight
   strong-of-weight t i h = record {

@@ -22,7 +22,7 @@ use Rattle.laws.proofs.Members.{filter-in, in-filter, sort-in, in-sort,
 use Rattle.laws.proofs.Chains.{strong-of-weight, weight-of-strong, joined-sym, joined-trans}
 use Rattle.laws.proofs.Components.{Same, components-joins, components-least, singletons-alone, kruskal-components, filter-kruskal, heavy, Falling}
 
--- ---- the card's triangles
+-- ---- the graph's triangles
 
 module _ (G : Graph) where
   pub triangles-in : {t : Triangle} → In t (triangles G) → IsTriangle (member (G .links)) t

@@ -1,9 +1,9 @@
 -- Demand 3, proved: of what builds write that are not refused, whatever memory was lent and whatever that held.
-use mathlib.Core.Path.{_≡_, refl, sym, ap, _∙_, subst}
+use mathlib.Core.Path.{_≡_, refl, sym, ap, _∙_}
 use mathlib.Core.Logic.{_⊎_, inl, inr}
 use mathlib.Core.Bool.{true, false}
 use mathlib.Core.List.{List, [], _∷_, _++_}
-use Prim.Native.Nat.{ℕ, _≤_}
+use Prim.Native.Nat.{ℕ}
 use native.Mathlib.Omega.{arith}
 use lib.Dec.{ltb}
 use lib.ListN.{length, take, drop}
@@ -11,11 +11,11 @@ use borrow.Author.Tests.{le-ltb}
 use Rattle.truss.specs.Graph.{Pair, graphOf}
 use Rattle.truss.specs.Refusal.{passed, andThen, mapPassed}
 use Rattle.truss.specs.LinksFile.{accepted, readLinks}
-use Rattle.truss.specs.Index.{indexBytes, decode}
-use Rattle.truss.specs.Call.{Reply, Written, done, write, checkRoom, withRoom, build}
+use Rattle.truss.specs.Index.{indexBytes}
+use Rattle.truss.specs.Call.{Reply, done, write, checkRoom, build}
 use Rattle.truss.specs.Demand3.{Builds, Agrees, Demand3, OnlyShortMemory}
 use Rattle.laws.proofs.Lists.{test}
-use Rattle.laws.proofs.Accepted.{Named, read-named}
+use Rattle.laws.proofs.Accepted.{read-named}
 use Rattle.laws.proofs.Agree.{decoded, agree, same-bytes}
 
 take-front : (xs ys : List ℕ) → take (length xs) (xs ++ ys) ≡ xs

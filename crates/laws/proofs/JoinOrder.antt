@@ -1,4 +1,4 @@
--- The joins of a card come each once, in a strict order. So a program that writes them in that order writes this list.
+-- The joins of a graph come each once, in a strict order. So a program that writes them in that order writes this list.
 use mathlib.Core.Path.{_≡_, refl, sym, ap, _∙_, subst}
 use mathlib.Core.Logic.{_⊎_, inl, inr, _≢_}
 use mathlib.Core.Bool.{Bool, true, false, _&&_, _||_}
@@ -87,7 +87,7 @@ module _ (t u : Triangle) (t₁ : t .a < t .b) (t₂ : t .b < t .c) (u₁ : u .a
   unfolding Equal
   equal-triangle x = λ i. record { a = x .0 i; b = x .1 i; c = x .2 i }
 
--- ---- the card's triangles and joins, each once
+-- ---- the graph's triangles and joins, each once
 
 module _ (G : Graph) (proper : Proper G) (different : Distinct (G .links)) where
   above : Link → ℕ → Bool
@@ -338,7 +338,7 @@ pub sorted-map : {A : Type 0} (R S : A → A → Type 0) → ((x y : A) → R x 
 sorted-map R S h [] s = tt
 sorted-map R S h (x ∷ xs) s = (λ y m. h x y (s .0 y m), sorted-map R S h xs (s .1))
 
--- a list in the strict order with the joins of the card is the card's list
+-- a list in the strict order with the joins of the graph is the graph's list
 pub joins-unique : (G : Graph) → Proper G → Distinct (G .links) → (xs : List Join) → Sorted (λ (x y : Join). joinBefore x y ≡ true) xs
     → ((x : Join) → In x xs → In x (allJoins G)) → ((x : Join) → In x (allJoins G) → In x xs) → xs ≡ allJoins G
 unfolding allJoins

@@ -18,6 +18,7 @@ pub mod Stored
 pub mod Tree
 pub mod ForestPaths
 pub mod Meaning
+pub mod Answers
 -- the two files
 pub mod Ordering
 pub mod Accepted

@@ -16,13 +16,12 @@ use Rattle.truss.specs.Chain.{Joined, InGroup}
 use Rattle.truss.specs.Group.{groupAt, labelsAt}
 use Rattle.truss.specs.Question.{joinedUpTo}
 use Rattle.laws.proofs.Proper.{Proper}
-use Rattle.laws.proofs.Lists.{test, and-left, and-right, both, largest-max, largest-passes}
+use Rattle.laws.proofs.Lists.{test, both, largest-max, largest-passes}
 use Rattle.laws.proofs.Members.{getD-in, in-member, in-any, number-lt, link-of-number}
 use Rattle.laws.proofs.Peeling.{strength-at-most}
 use Rattle.laws.proofs.Chains.{strength-at-least, at-least-strength}
 use Rattle.laws.proofs.Components.{Same}
 use Rattle.laws.proofs.Connected.{same-joined, joined-same}
-use Rattle.laws.proofs.Sets.{any-number}
 use Rattle.laws.proofs.Groups.{size, strengthAt, group-in, in-group, group-self, group-strong}
 use Rattle.laws.proofs.Stored.{groupCount, stored, stored-number, stored-distinct}
 

@@ -9,7 +9,7 @@ use native.Mathlib.Omega.{arith}
 use lib.Dec.{eqb, leb}
 use lib.ListN.{length}
 use borrow.Author.Tests.{eqb-true, eqb-false, leb-true, le-leb}
-use Rattle.truss.specs.Lists.{filter, largest}
+use Rattle.truss.specs.Lists.{filter}
 use Rattle.truss.specs.Graph.{Link, LinkSet, Graph, member, support}
 use Rattle.truss.specs.Strength.{IsTruss, InTruss, IsStrength, peelOnce, peel, truss, strength}
 use Rattle.laws.proofs.Lists.{true-not-false, filter-length, filter-whole, member-filter, filter-member, support-le, support-mono, largest-le, largest-max, largest-passes}
@@ -82,7 +82,7 @@ module _ (n k : ℕ) where
           let differ : length (peelOnce n k L) ≢ length L = eqb-false (length (peelOnce n k L)) (length L) c in
           rw (peel-goes-on r L c) (ih (omega (arith, filter-length (enough L) L, differ)) e (rw (peel-goes-on r L c) at h))
 
--- ---- the k-truss of a card
+-- ---- the k-truss of a graph
 
 module _ (G : Graph) (k : ℕ) where
   -- what peeling leaves is such a set as the relation asks for
@@ -107,7 +107,7 @@ module _ (G : Graph) (k : ℕ) where
 -- ---- the strength
 
 module _ (G : Graph) where
-  -- the whole card serves at 2
+  -- all links together serve at 2
   pub in-truss-2 : (e : Link) → member (G .links) e ≡ true → InTruss G 2 e
   in-truss-2 e h = (member (G .links), record { within = λ f t. t; held = λ f t. omega arith }, h)
 
@@ -139,3 +139,12 @@ module _ (G : Graph) where
   pub strength-at-most : (e : Link) → strength G e ≤ 2 + G .n
   unfolding strength
   strength-at-most e = largest-le _ (2 + G .n)
+
+  -- "A link in no triangle has 2."
+  pub no-triangle : (e : Link) → member (G .links) e ≡ true → support (G .n) (member (G .links)) e ≡ 0 → strength G e ≡ 2
+  no-triangle e h none =
+      let s = strength-is e h .reached in
+      let few : support (G .n) (s .0) e ≤ support (G .n) (member (G .links)) e = support-mono (G .n) (s .0) (member (G .links)) e (s .1 .within) in
+      let enough : strength G e ≤ 2 + support (G .n) (s .0) e = s .1 .held e (s .2) in
+      let least = strength-at-least-2 e h in
+      omega arith

@@ -123,7 +123,7 @@ write-read n ps named =
 
 -- ---- the reader of an index
 
--- the card's own pairs are as good as the file's
+-- the graph's own pairs are as good as the file's
 module _ (n : ℕ) (ps : List Pair) (named : Named n ps) where
   link-lower : (e : Link) → e .lo < e .hi → linkOf (lowerFirst e) ≡ e
   link-lower e l = Rattle.laws.proofs.Chains.link-ordered (e .lo) (e .hi) (omega arith)

@@ -1,32 +1,32 @@
--- How long an index is: the forest has fewer joins than there are links, so an index of m links has at most 20 m bytes. And its bytes are bytes.
-use mathlib.Core.Path.{_≡_, refl, sym, ap, _∙_}
+-- How long an index is: the forest has fewer joins than there are links, so an index of m links has at most 20 m bytes.
+use mathlib.Core.Path.{_≡_, refl, sym, ap, _∙_, subst}
 use mathlib.Core.Logic.{_⊎_, inl, inr, _≢_}
 use mathlib.Core.Bool.{Bool, true, false, cond}
-use mathlib.Core.List.{List, [], _∷_, _++_}
+use mathlib.Core.List.{List, [], _∷_}
 use mathlib.Core.List.{List·Memᴰ as In, List·Memᴰ·head as here, List·Memᴰ·tail as there}
 use Prim.Native.Nat.{ℕ, zero, suc, _+_, _*_, _≤_, _<_, min, max}
 use native.Mathlib.Nat.{le-refl, not-suc-le-zero}
 use native.Mathlib.Omega.{arith}
-use lib.Dec.{eqb, leb, leb·zero}
+use lib.Dec.{eqb, leb, leb·zero, ltb}
 use lib.ListN.{length, length-append}
-use borrow.Author.Tests.{eqb-true, eqb-false, eq-eqb, ne-eqb}
-use Rattle.truss.specs.Limits.{noGroup}
+use borrow.Author.Tests.{eqb-true, eqb-false, eq-eqb, ne-eqb, ltb-true, ltb-false}
+use Rattle.truss.specs.Limits.{noGroup, maxIndexBytes}
 use Rattle.truss.specs.Lists.{count, concatMap, range}
-use Rattle.truss.specs.Graph.{Link, Graph, Triangle, Has, linkNumber}
+use Rattle.truss.specs.Graph.{Link, Graph, Triangle, Has, linkNumber, Pair, graphOf}
 use Rattle.truss.specs.Strength.{weight}
 use Rattle.truss.specs.Chain.{StrongTriangle}
 use Rattle.truss.specs.Forest.{Join, join, allJoins, singletons, merge, sameComponent, kruskal, forest}
 use Rattle.truss.specs.Group.{groups}
-use Rattle.truss.specs.Record.{endBytes}
-use Rattle.truss.specs.Index.{Index, index, encode, indexBytes, linkBytes, joinBytes, groupBytes}
+use Rattle.truss.specs.Index.{Index, index, encode, indexBytes}
 use Rattle.laws.proofs.Proper.{Proper}
 use Rattle.laws.proofs.Lists.{test, true-not-false, count-le}
 use Rattle.laws.proofs.Members.{in-filter, range-at, number-lt}
-use Rattle.laws.proofs.Components.{label, low, high, relabel, relabel-cases, label-merge, heavy}
+use Rattle.laws.proofs.Components.{label, low, high, relabel, relabel-cases, label-merge, heavy, kruskal-in}
 use Rattle.laws.proofs.Connected.{heavy-from, has-member}
 use Rattle.laws.proofs.Groups.{size}
 use Rattle.laws.proofs.Stored.{few-groups}
 use Rattle.laws.proofs.Tree.{rows-length, group-rows-length}
+use Rattle.laws.proofs.Accepted.{Named, graph-proper, graph-size}
 
 pub count-fewer : (p q : ℕ → Bool) (n : ℕ) → ((i : ℕ) → i < n → p i ≡ true → q i ≡ true) → (z : ℕ) → z < n → q z ≡ true → p z ≡ false → count p n < count q n
 unfolding count
@@ -218,3 +218,32 @@ pub index-length : (G : Graph) → Proper G → size G ≤ noGroup → 0 < size 
 unfolding indexBytes index
 index-length G proper few pos =
     omega (arith, encode-length (index G), rows-length G proper few, group-rows-length G proper few, few-groups G proper, forest-size G pos)
+
+-- without links there are no joins
+no-joins : (G : Graph) → size G ≡ 0 → length (forest G) ≡ 0
+unfolding forest
+no-joins G none = go (forest G) refl
+  where
+    go : (xs : List Join) → forest G ≡ xs → length xs ≡ 0
+    go [] q = refl
+    go (z ∷ zs) q = absurd (omega (arith, none, join-ends G z (kruskal-in (allJoins G) (singletons (size G)) (subst (In z) (sym q) (here refl))) .0))
+
+-- "An index is at most 40,960 bytes."
+pub index-room : (n : ℕ) (ps : List Pair) → Named n ps → length (indexBytes (graphOf n ps)) ≤ maxIndexBytes
+unfolding indexBytes index
+index-room n ps named = go (test (ltb 0 (size G)))
+  where
+    G : Graph
+    G = graphOf n ps
+
+    proper : Proper G
+    proper = graph-proper n ps (named .good)
+
+    few : size G ≤ noGroup
+    few = omega (arith, graph-size n ps, named .links)
+
+    go : (ltb 0 (size G) ≡ true) ⊎ (ltb 0 (size G) ≡ false) → length (indexBytes G) ≤ maxIndexBytes
+    go (inl c) = omega (arith, index-length G proper few (ltb-true 0 (size G) c), graph-size n ps, named .links)
+    go (inr c) =
+        let none : size G ≡ 0 = omega (arith, ltb-false 0 (size G) c) in
+        omega (arith, encode-length (index G), rows-length G proper few, group-rows-length G proper few, few-groups G proper, no-joins G none)

@@ -51,7 +51,6 @@ checkRoom result buffer = andThen result (λ b. withRoom b buffer b)
 
 -- the index of what an accepted links file names
 abbrev pub indexOf : Links → List ℕ
-unfolding graphOf indexBytes
 indexOf l = indexBytes (graphOfLinks l)
 
 -- build: a links file into its index. "A build meets 12 after 1 to 6"

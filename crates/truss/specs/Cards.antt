@@ -4,7 +4,7 @@ use Prim.Native.Nat.{ℕ}
 use Rattle.truss.specs.Lists.{concatMap}
 use Rattle.truss.specs.Graph.{Pair, Graph, graphOf}
 use Rattle.truss.specs.Record.{kindHead, field, headBytes, endBytes}
-use Rattle.truss.specs.LinksFile.{pairBytes, writeLinks}
+use Rattle.truss.specs.LinksFile.{pairBytes}
 use Rattle.truss.specs.Index.{indexBytes}
 
 unfoldable pub pair : ℕ → ℕ → Pair

@@ -2,8 +2,7 @@
 -- has one for each tie, limit and order of checks that the P list leaves open.
 use mathlib.Core.Path.{_≡_, refl}
 use mathlib.Core.Option.{none, some}
-use mathlib.Core.List.{List, [], _∷_}
-use Prim.Native.Nat.{ℕ}
+use mathlib.Core.List.{[], _∷_}
 use lib.ListN.{length}
 use Rattle.truss.specs.Limits.{noGroup}
 use Rattle.truss.specs.Graph.{link, graphOf, member, support}
@@ -14,36 +13,9 @@ use Rattle.truss.specs.Record.{bodyLength}
 use Rattle.truss.specs.LinksFile.{accepted, readLinks, writeLinks, readBack}
 use Rattle.truss.specs.Index.{indexBytes}
 use Rattle.truss.specs.IndexFile.{readIndex}
-use Rattle.truss.specs.Question.{
-  answer,
-  ask-strength,
-  ask-joined,
-  ask-groups-at,
-  ask-strongest,
-  ask-all,
-  ask-links,
-  number,
-  numbers,
-}
+use Rattle.truss.specs.Question.{answer, ask-strength, ask-joined, ask-groups-at, ask-strongest, ask-all, ask-links, number, numbers}
 use Rattle.truss.specs.Listing.{rows, lister}
-use Rattle.truss.specs.Cards.{
-  pair,
-  file,
-  headOnly,
-  accounts,
-  pairsA,
-  pairsA′,
-  graphA,
-  indexA,
-  graphB,
-  indexB,
-  bowTie,
-  five,
-  nested,
-  kite,
-  twoApart,
-  triangle,
-}
+use Rattle.truss.specs.Cards.{pair, file, headOnly, accounts, pairsA, pairsA′, graphA, indexA, graphB, indexB, bowTie, five, nested, kite, twoApart, triangle}
 
 -- ---- document 01, "Meetings on paper (P: proved)"
 

@@ -40,7 +40,6 @@ allJoins G = sort joinBefore (concatMap (triangleJoins G) (triangles G))
 
 -- Components (of any graph on m points) are kept as a label for each point, the least point of its component. At first each point is its own.
 abbrev pub singletons : ℕ → List ℕ
-unfolding range
 singletons m = range 0 m
 
 -- the components of i and j become one

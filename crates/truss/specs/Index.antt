@@ -10,20 +10,7 @@ use Rattle.truss.specs.Graph.{Graph, linkAt}
 use Rattle.truss.specs.Strength.{strength}
 use Rattle.truss.specs.Forest.{Join, forest}
 use Rattle.truss.specs.Group.{Group, leastLink, groups, groupOf, parent}
-use Rattle.truss.specs.Record.{
-  kindIndexHead,
-  kindStrongLink,
-  kindJoin,
-  kindGroup,
-  field,
-  byteAt,
-  fieldAt,
-  headBytes,
-  endBytes,
-  Record,
-  records,
-  ofKind,
-}
+use Rattle.truss.specs.Record.{kindIndexHead, kindStrongLink, kindJoin, kindGroup, field, byteAt, fieldAt, headBytes, endBytes, Record, records, ofKind}
 
 -- ---- what an index says
 
@@ -107,7 +94,6 @@ readGroupRow r = record { parent = fieldAt (r .body) 0; strength = byteAt (r .bo
 
 -- the first record
 abbrev pub headOf : List ℕ → Record
-unfolding records
 headOf b = getD (records b) 0 (record { kind = 0; body = [] })
 
 -- record by record (laws: decode-index, that the bytes of a graph's index say its index)

@@ -24,4 +24,4 @@ pub mod Demand3
 -- the worked cases
 pub mod Cards
 pub mod Cases
-pub mod CallCases
+pub mod WholeCalls

@@ -25,7 +25,6 @@ abbrev pub accepted : ℕ → List Pair → Checked Links
 accepted n ps = passed (record { n = n; pairs = ps })
 
 abbrev pub graphOfLinks : Links → Graph
-unfolding graphOf
 graphOfLinks l = graphOf (l .n) (l .pairs)
 
 -- "The head is checked as 1, 2, 3": 1, no whole head; 2, "n is 0 or above 1,024"; 3, "m above 2,048"

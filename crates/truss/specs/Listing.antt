@@ -8,7 +8,7 @@ use Rattle.truss.specs.Limits.{noGroup}
 use Rattle.truss.specs.Lists.{concatMap, count, range}
 use Rattle.truss.specs.Graph.{Graph, linkAt, graphOf}
 use Rattle.truss.specs.Group.{Group, leastLink, groups, parent}
-use Rattle.truss.specs.Refusal.{Refusal, Checked, passed, refused, mapPassed}
+use Rattle.truss.specs.Refusal.{Checked, passed, refused, mapPassed}
 use Rattle.truss.specs.LinksFile.{readLinks}
 use Rattle.truss.specs.Index.{indexBytes}
 use Rattle.truss.specs.IndexFile.{readIndex}
@@ -52,7 +52,6 @@ digits (suc r) x = let front = digits r (x / 10) in cond (ltb x 10) ((0x30 + x) 
 
 -- ten digits are enough for 32 bits
 abbrev pub decimal : ℕ → List ℕ
-unfolding digits
 decimal x = digits 10 x
 
 abbrev pub space : List ℕ

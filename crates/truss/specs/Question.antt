@@ -27,7 +27,6 @@ holds G g v = any (λ i. ends (linkAt G i) v) (g .members)
 
 -- "the intersection is meant": it holds all of them
 abbrev pub holdsAll : Graph → List ℕ → Group → Bool
-unfolding all holds
 holdsAll G vs g = all (holds G g) vs
 
 abbrev pub emptyGroup : Group

@@ -62,7 +62,6 @@ holdsBody (some l) b at = leb (at + 1 + l) (length b)
 
 -- a whole record of this kind stands at a place. (Past the last byte there is 0, which is no kind.)
 abbrev pub whole : List ℕ → ℕ → ℕ → Bool
-unfolding holdsBody bodyLength
 whole b at kind = eqb (byteAt b at) kind && holdsBody (bodyLength kind) b at
 
 -- ---- bytes as a row of records

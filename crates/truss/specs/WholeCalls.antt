@@ -1,21 +1,19 @@
 -- Whole calls, held by computation: replies, places, every lent byte, the tally, and the text of both programs.
 use mathlib.Core.Path.{_≡_, refl}
-use mathlib.Core.List.{List, [], _∷_, _++_}
-use Prim.Native.Nat.{ℕ}
-use Rattle.truss.specs.Graph.{graphOf}
+use mathlib.Core.List.{[], _∷_, _++_}
 use Rattle.truss.specs.LinksFile.{writeLinks}
 use Rattle.truss.specs.Question.{ask-strength, ask-joined, ask-groups-at, ask-strongest, ask-all, ask-links}
 use Rattle.truss.specs.Call.{build, read, ask, askBytes, done}
 use Rattle.truss.specs.Listing.{lister, builder}
 use Rattle.truss.specs.Cards.{pair, file, headOnly, accounts, pairsA, indexA, indexB, indexT}
 
-record CallCases : Type 0 where
+record WholeCalls : Type 0 where
   -- build: the index over the front of the buffer, the bytes after it stay; 12 only for a buffer that is too short, after 1 to 6
   build-tail : build (headOnly 1) (9 ∷ 9 ∷ 9 ∷ 9 ∷ 9 ∷ 9 ∷ 9 ∷ []) ≡ record { reply = done 6; buffer = 1 ∷ 0 ∷ 1 ∷ 0 ∷ 0 ∷ 5 ∷ 9 ∷ [] }
   build-exact : build (headOnly 1) (9 ∷ 9 ∷ 9 ∷ 9 ∷ 9 ∷ 9 ∷ []) ≡ record { reply = done 6; buffer = 1 ∷ 0 ∷ 1 ∷ 0 ∷ 0 ∷ 5 ∷ [] }
   build-short : build (headOnly 1) (9 ∷ 9 ∷ 9 ∷ 9 ∷ 9 ∷ []) ≡ record { reply = record { refusal = 12; value = 0; second = 0; third = 0 }; buffer = 9 ∷ 9 ∷ 9 ∷ 9 ∷ 9 ∷ [] }
   build-refused : build (file 5 1 (pair 3 3 ∷ []) (5 ∷ [])) (9 ∷ []) ≡ record { reply = record { refusal = 5; value = 5; second = 0; third = 0 }; buffer = 9 ∷ [] }
-  build-A : build (writeLinks 5 pairsA) (indexB ++ (9 ∷ [])) .reply ≡ done 84
+  build-A : build (writeLinks 5 pairsA) (indexA ++ (9 ∷ [])) .reply ≡ done 84
   -- read: 7 only for bytes that are no index, 12 after it
   read-tail : read (headOnly 1) (9 ∷ 9 ∷ 9 ∷ 9 ∷ 9 ∷ 9 ∷ 9 ∷ []) ≡ record { reply = done 6; buffer = 1 ∷ 0 ∷ 1 ∷ 0 ∷ 0 ∷ 5 ∷ 9 ∷ [] }
   read-A : read indexA indexA .reply ≡ done 36
@@ -50,9 +48,9 @@ record CallCases : Type 0 where
   builder-A : builder (writeLinks 5 pairsA) ≡ indexA
   builder-refused : builder (file 5 1 (pair 3 3 ∷ []) (5 ∷ [])) ≡ 0x72 ∷ 0x65 ∷ 0x66 ∷ 0x75 ∷ 0x73 ∷ 0x65 ∷ 0x64 ∷ 0x20 ∷ 0x35 ∷ 0x20 ∷ 0x35 ∷ 0x0A ∷ []
 
-call-cases : CallCases
+whole-calls : WholeCalls
 unfolding indexT indexB indexA pairsA pair file headOnly accounts writeLinks build read ask askBytes lister builder
-call-cases = record {
+whole-calls = record {
   build-tail = refl;
   build-exact = refl;
   build-short = refl;

@@ -1,0 +1,227 @@
+-- What the answers to questions B to F mean: which groups and links are listed, that repeats change nothing, that an account without links is in no
+-- group. And that a tally reads back as it was written.
+use mathlib.Core.Path.{_≡_, refl, sym, ap, _∙_, subst}
+use mathlib.Core.Logic.{_⊎_, inl, inr, _↔_}
+use mathlib.Core.Bool.{Bool, true, false, cond, _&&_, _||_, not}
+use mathlib.Core.List.{List, [], _∷_, _++_}
+use mathlib.Core.List.{List·Memᴰ as In, List·Memᴰ·head as here, List·Memᴰ·not-nil as in-nil}
+use Prim.Native.Nat.{ℕ, _+_, _*_, _/_, _%_, _≤_, _<_}
+use native.Mathlib.Nat.{le-antisymm, le-refl, div-div-eq-div-mul, div-add-mod'}
+use native.Mathlib.Omega.{arith}
+use lib.Dec.{ltb, leb}
+use lib.ListN.{length, getD}
+use borrow.Author.Tests.{leb-true, leb-false, le-leb, ltb-true, ltb-false}
+use Rattle.truss.specs.Limits.{minLevel, maxTally}
+use Rattle.truss.specs.Lists.{all, range}
+use Rattle.truss.specs.Graph.{Link, Graph, linkAt, ends, member}
+use Rattle.truss.specs.Strength.{strength}
+use Rattle.truss.specs.Group.{Group, groups, groupAt, leastLink}
+use Rattle.truss.specs.Question.{joinedUpTo, holds, holdsAll, emptyGroup, numbersOf, isGroupAt, groupsHolding, strongestHolding, allHolding}
+use Rattle.truss.specs.Call.{tallyBytes, tallyIn}
+use Rattle.laws.proofs.Proper.{Proper}
+use Rattle.laws.proofs.Lists.{test, both, true-not-false}
+use Rattle.laws.proofs.Members.{filter-in, in-filter, filter-none, range-in, in-range, any-in}
+use Rattle.laws.proofs.Sets.{all-in, in-all, filter-same, eq-same-list}
+use Rattle.laws.proofs.Chains.{strength-at-least, at-least-strength}
+use Rattle.laws.proofs.Groups.{size, strengthAt, group-self, group-rebase}
+use Rattle.laws.proofs.Stored.{groupCount, stored, stored-number}
+use Rattle.laws.proofs.Meaning.{joined-up-to-max, joined-up-to-is}
+
+-- ---- the groups that pass a test
+
+module _ (p : Group → Bool) (gs : List Group) where
+  pub numbers-in : {g : ℕ} → In g (numbersOf p gs) → (g < length gs) × (p (getD gs g emptyGroup) ≡ true)
+  unfolding numbersOf
+  numbers-in m =
+      let r = filter-in (λ (i : ℕ). p (getD gs i emptyGroup)) (range 0 (length gs)) m in
+      (omega (arith, range-in 0 (length gs) (r .0) .1), r .1)
+
+  pub in-numbers : {g : ℕ} → g < length gs → p (getD gs g emptyGroup) ≡ true → In g (numbersOf p gs)
+  unfolding numbersOf
+  in-numbers {g} l h = in-filter (λ (i : ℕ). p (getD gs i emptyGroup)) (range 0 (length gs)) (in-range 0 (length gs) (omega arith) (omega arith)) h
+
+numbers-same : (p q : Group → Bool) (gs : List Group) → ((g : Group) → p g ≡ q g) → numbersOf p gs ≡ numbersOf q gs
+unfolding numbersOf
+numbers-same p q gs h = filter-same (λ (i : ℕ). p (getD gs i emptyGroup)) (λ (i : ℕ). q (getD gs i emptyGroup)) (range 0 (length gs)) (λ i m. h (getD gs i emptyGroup))
+
+numbers-none : (p : Group → Bool) (gs : List Group) → ((g : Group) → p g ≡ false) → numbersOf p gs ≡ []
+unfolding numbersOf
+numbers-none p gs h = filter-none (λ (i : ℕ). p (getD gs i emptyGroup)) (range 0 (length gs)) (λ i m. h (getD gs i emptyGroup))
+
+-- ---- C, D and E: "a repeat changes no answer": two rows of the same accounts have one answer
+
+bool-same : (a b : Bool) → (a ≡ true → b ≡ true) → (b ≡ true → a ≡ true) → a ≡ b
+bool-same true true f g = refl
+bool-same true false f g = sym (f refl)
+bool-same false true f g = g refl
+bool-same false false f g = refl
+
+module _ (G : Graph) (us vs : List ℕ) (same : (v : ℕ) → In v us ↔ In v vs) where
+  holds-same : (g : Group) → holdsAll G us g ≡ holdsAll G vs g
+  holds-same g =
+      bool-same (holdsAll G us g) (holdsAll G vs g)
+      (λ h. in-all (holds G g) vs (λ v m. all-in (holds G g) us h (same v .1 m)))
+      (λ h. in-all (holds G g) us (λ v m. all-in (holds G g) vs h (same v .0 m)))
+
+  pub repeat-C : (k : ℕ) → groupsHolding G k us ≡ groupsHolding G k vs
+  unfolding groupsHolding
+  repeat-C k = numbers-same _ _ (groups G) (λ g. ap (λ (b : Bool). isGroupAt G k g && b) (holds-same g))
+
+  pub repeat-D : strongestHolding G us ≡ strongestHolding G vs
+  unfolding strongestHolding
+  repeat-D = ap (λ (f : Group → Bool). numbersOf (λ (g : Group). f g && all (λ (o : Group). not (f o) || leb (o .strength) (g .strength)) (groups G)) (groups G)) (λ i g. holds-same g i)
+
+  pub repeat-E : allHolding G us ≡ allHolding G vs
+  unfolding allHolding
+  repeat-E = numbers-same _ _ (groups G) holds-same
+
+-- ---- "An account without links is in no group, and the count is 0."
+
+module _ (G : Graph) (v : ℕ) (alone : (i : ℕ) → ends (linkAt G i) v ≡ false) where
+  held-by-none : (g : Group) → holds G g v ≡ false
+  unfolding holds
+  held-by-none g = go (test (holds G g v))
+    where
+      go : (holds G g v ≡ true) ⊎ (holds G g v ≡ false) → holds G g v ≡ false
+      go (inl c) = let r = any-in (λ (i : ℕ). ends (linkAt G i) v) (g .members) c in absurd (true-not-false (r .2) (alone (r .0)))
+      go (inr c) = c
+
+  module _ (vs : List ℕ) (named : In v vs) where
+    none-hold : (g : Group) → holdsAll G vs g ≡ false
+    none-hold g = go (test (holdsAll G vs g))
+      where
+        go : (holdsAll G vs g ≡ true) ⊎ (holdsAll G vs g ≡ false) → holdsAll G vs g ≡ false
+        go (inl c) = absurd (true-not-false (all-in (holds G g) vs c named) (held-by-none g))
+        go (inr c) = c
+
+    pub alone-C : (k : ℕ) → groupsHolding G k vs ≡ []
+    unfolding groupsHolding
+    alone-C k = numbers-none _ (groups G) (λ g. at (isGroupAt G k g) (none-hold g))
+      where
+        at : (a : Bool) {b : Bool} → b ≡ false → (a && b) ≡ false
+        at true q = q
+        at false q = refl
+
+    pub alone-D : strongestHolding G vs ≡ []
+    unfolding strongestHolding
+    alone-D = numbers-none _ (groups G) (λ g. at (holdsAll G vs g) _ (none-hold g))
+      where
+        at : (a b : Bool) → a ≡ false → (a && b) ≡ false
+        at true b q = absurd (true-not-false refl q)
+        at false b q = refl
+
+    pub alone-E : allHolding G vs ≡ []
+    unfolding allHolding
+    alone-E = numbers-none _ (groups G) none-hold
+
+-- ---- C lists the groups at k, and all of them that hold the accounts
+
+module _ (G : Graph) (proper : Proper G) (k : ℕ) (level : minLevel ≤ k) (vs : List ℕ) where
+  pub C-only : {g : ℕ} → In g (groupsHolding G k vs)
+      → (g < groupCount G) × (stored G g .members ≡ groupAt G k (leastLink (stored G g))) × (holdsAll G vs (stored G g) ≡ true)
+  unfolding groupsHolding isGroupAt
+  C-only {g} m =
+      let r = numbers-in (λ (h : Group). isGroupAt G k h && holdsAll G vs h) (groups G) m in (
+        r .0,
+        sym (same-list-eq (groupAt G k (leastLink (stored G g))) (stored G g .members) (and-left (isGroupAt G k (stored G g)) (holdsAll G vs (stored G g)) (r .1))),
+        and-right (isGroupAt G k (stored G g)) (holdsAll G vs (stored G g)) (r .1),
+      )
+
+  -- the group at k with link i, if it holds the accounts
+  pub C-all : (i : ℕ) → i < size G → k ≤ strengthAt G i → (s : ℕ) → holdsAll G vs (record { strength = s; members = groupAt G k i }) ≡ true
+      → (g : ℕ) × In g (groupsHolding G k vs) × (stored G g .members ≡ groupAt G k i)
+  unfolding groupsHolding isGroupAt holds
+  C-all i li si s h = from (stored-number G k i level li si)
+    where
+      from : (g : ℕ) × (g < groupCount G) × (stored G g .members ≡ groupAt G k i) × (k ≤ stored G g .strength)
+          → (g : ℕ) × In g (groupsHolding G k vs) × (stored G g .members ≡ groupAt G k i)
+      from (g, lg, q, kg) = (g, in-numbers (λ (x : Group). isGroupAt G k x && holdsAll G vs x) (groups G) lg (both at-k all-held), q)
+        where
+          first-in : (xs : List ℕ) {j : ℕ} → In j xs → In (getD xs 0 0) xs
+          first-in [] m = absurd (in-nil m)
+          first-in (x ∷ xs) m = here refl
+
+          least : In (leastLink (stored G g)) (groupAt G k i)
+          least = subst (λ (xs : List ℕ). In (getD (stored G g .members) 0 0) xs) q (first-in (stored G g .members) (subst (In i) (sym q) (group-self G k i li si)))
+
+          at-k : isGroupAt G k (stored G g) ≡ true
+          at-k = eq-same-list (groupAt G k (leastLink (stored G g))) (stored G g .members) (group-rebase G k i li least ∙ sym q)
+
+          all-held : holdsAll G vs (stored G g) ≡ true
+          all-held = rw (sym q) at h
+
+-- ---- D lists the groups that hold the accounts and than which none that does is stronger; E all that do
+
+module _ (G : Graph) (vs : List ℕ) where
+  abbrev stronger : Group → Group → Bool
+  stronger g o = not (holdsAll G vs o) || leb (o .strength) (g .strength)
+
+  pub D-only : {g : ℕ} → In g (strongestHolding G vs)
+      → (g < groupCount G) × (holdsAll G vs (stored G g) ≡ true)
+      × ((h : Group) → In h (groups G) → holdsAll G vs h ≡ true → h .strength ≤ stored G g .strength)
+  unfolding strongestHolding
+  D-only {g} m =
+      let r = numbers-in (λ (x : Group). holdsAll G vs x && all (stronger x) (groups G)) (groups G) m in (
+        r .0,
+        and-left (holdsAll G vs (stored G g)) (all (stronger (stored G g)) (groups G)) (r .1),
+        λ h mh c. at h c (all-in (stronger (stored G g)) (groups G) (and-right (holdsAll G vs (stored G g)) (all (stronger (stored G g)) (groups G)) (r .1)) mh),
+      )
+    where
+      at : (h : Group) → holdsAll G vs h ≡ true → stronger (stored G g) h ≡ true → h .strength ≤ stored G g .strength
+      at h c q = leb-true (h .strength) (stored G g .strength) (rw c at q)
+
+  pub D-all : (g : ℕ) → g < groupCount G → holdsAll G vs (stored G g) ≡ true
+      → ((h : Group) → In h (groups G) → holdsAll G vs h ≡ true → h .strength ≤ stored G g .strength) → In g (strongestHolding G vs)
+  unfolding strongestHolding
+  D-all g lg c top =
+      in-numbers (λ (x : Group). holdsAll G vs x && all (stronger x) (groups G)) (groups G) lg
+      (both c (in-all (stronger (stored G g)) (groups G) (λ h mh. at h mh (test (holdsAll G vs h)))))
+    where
+      at : (h : Group) → In h (groups G) → (holdsAll G vs h ≡ true) ⊎ (holdsAll G vs h ≡ false) → stronger (stored G g) h ≡ true
+      at h mh (inl d) = rw d (le-leb (h .strength) (stored G g .strength) (top h mh d))
+      at h mh (inr d) = rw d refl
+
+  pub E-is : (g : ℕ) → In g (allHolding G vs) ↔ ((g < groupCount G) × (holdsAll G vs (stored G g) ≡ true))
+  unfolding allHolding
+  E-is g = ((λ m. numbers-in (holdsAll G vs) (groups G) m), (λ r. in-numbers (holdsAll G vs) (groups G) (r .0) (r .1)))
+
+-- ---- B: "a link with itself gives its strength, or 0 at strength 2"
+
+pub joined-itself : (G : Graph) → Proper G → (e : Link) → member (G .links) e ≡ true → joinedUpTo G e e ≡ cond (leb minLevel (strength G e)) (strength G e) 0
+joined-itself G proper e me = go (test (leb minLevel (strength G e)))
+  where
+    -- no level above the strength
+    top : joinedUpTo G e e ≤ strength G e
+    top = at (test (ltb 0 (joinedUpTo G e e)))
+      where
+        at : (ltb 0 (joinedUpTo G e e) ≡ true) ⊎ (ltb 0 (joinedUpTo G e e) ≡ false) → joinedUpTo G e e ≤ strength G e
+        at (inl c) = at-least-strength G (joinedUpTo G e e) e (joined-up-to-is G proper e e me me (ltb-true 0 (joinedUpTo G e e) c) .1 .strong)
+        at (inr c) = omega (arith, ltb-false 0 (joinedUpTo G e e) c)
+
+    go : (leb minLevel (strength G e) ≡ true) ⊎ (leb minLevel (strength G e) ≡ false) → joinedUpTo G e e ≡ cond (leb minLevel (strength G e)) (strength G e) 0
+    go (inl c) =
+        rw c
+        (le-antisymm top
+        (joined-up-to-max G proper e e me me (strength G e) (leb-true minLevel (strength G e) c) (record { strong = strength-at-least G (strength G e) e me (le-refl (strength G e)); joined = inl refl })))
+    go (inr c) = rw c (at (test (ltb 0 (joinedUpTo G e e))))
+      where
+        at : (ltb 0 (joinedUpTo G e e) ≡ true) ⊎ (ltb 0 (joinedUpTo G e e) ≡ false) → joinedUpTo G e e ≡ 0
+        at (inl d) = absurd (omega (arith, top, leb-false minLevel (strength G e) c, joined-up-to-is G proper e e me me (ltb-true 0 (joinedUpTo G e e) d) .0))
+        at (inr d) = omega (arith, ltb-false 0 (joinedUpTo G e e) d)
+
+-- ---- a tally: four bytes, high byte first, read back
+
+four-bytes : (t a b c r₀ r₁ r₂ : ℕ) → a * 256 + r₀ ≡ t → b * 256 + r₁ ≡ a → c * 256 + r₂ ≡ b → c * 16777216 + r₂ * 65536 + r₁ * 256 + r₀ ≡ t
+four-bytes t a b c r₀ r₁ r₂ p q r = omega arith
+
+small-byte : (t c : ℕ) → t ≤ maxTally → c ≡ t / 16777216 → c % 256 ≡ c
+small-byte t c l q = omega arith
+
+pub tally-back : (t : ℕ) (rest : List ℕ) → t ≤ maxTally → tallyIn (tallyBytes t ++ rest) ≡ t
+tally-back t rest l =
+    let a : t / 65536 ≡ t / 256 / 256 = sym (div-div-eq-div-mul t 256 256) in
+    let b : t / 16777216 ≡ t / 256 / 256 / 256 = sym (div-div-eq-div-mul t 65536 256) ∙ ap (λ (x : ℕ). x / 256) a in
+    let top : t / 16777216 % 256 ≡ t / 256 / 256 / 256 = small-byte t (t / 16777216) l refl ∙ b in
+    rw (top, a)
+    (four-bytes t (t / 256) (t / 256 / 256) (t / 256 / 256 / 256) (t % 256) (t / 256 % 256) (t / 256 / 256 % 256) (div-add-mod' t 256)
+    (div-add-mod' (t / 256) 256) (div-add-mod' (t / 256 / 256) 256))
