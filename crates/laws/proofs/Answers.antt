@@ -19,9 +19,9 @@ use Rattle.truss.specs.Group.{Group, groups, groupAt, leastLink}
 use Rattle.truss.specs.Question.{joinedUpTo, holds, holdsAll, emptyGroup, numbersOf, isGroupAt, groupsHolding, strongestHolding, allHolding}
 use Rattle.truss.specs.Call.{tallyBytes, tallyIn}
 use Rattle.laws.proofs.Proper.{Proper}
-use Rattle.laws.proofs.Lists.{test, both, true-not-false}
+use Rattle.laws.proofs.Lists.{test, both, true-not-false, and-left, and-right}
 use Rattle.laws.proofs.Members.{filter-in, in-filter, filter-none, range-in, in-range, any-in}
-use Rattle.laws.proofs.Sets.{all-in, in-all, filter-same, eq-same-list}
+use Rattle.laws.proofs.Sets.{all-in, in-all, filter-same, eq-same-list, same-list-eq}
 use Rattle.laws.proofs.Chains.{strength-at-least, at-least-strength}
 use Rattle.laws.proofs.Groups.{size, strengthAt, group-self, group-rebase}
 use Rattle.laws.proofs.Stored.{groupCount, stored, stored-number}
@@ -47,6 +47,10 @@ numbers-same p q gs h = filter-same (λ (i : ℕ). p (getD gs i emptyGroup)) (λ
 numbers-none : (p : Group → Bool) (gs : List Group) → ((g : Group) → p g ≡ false) → numbersOf p gs ≡ []
 unfolding numbersOf
 numbers-none p gs h = filter-none (λ (i : ℕ). p (getD gs i emptyGroup)) (range 0 (length gs)) (λ i m. h (getD gs i emptyGroup))
+
+-- g is no weaker than o, if o holds the accounts
+abbrev noWeaker : Graph → List ℕ → Group → Group → Bool
+noWeaker G vs g o = not (holdsAll G vs o) || leb (o .strength) (g .strength)
 
 -- ---- C, D and E: "a repeat changes no answer": two rows of the same accounts have one answer
 
@@ -104,7 +108,7 @@ module _ (G : Graph) (v : ℕ) (alone : (i : ℕ) → ends (linkAt G i) v ≡ fa
 
     pub alone-D : strongestHolding G vs ≡ []
     unfolding strongestHolding
-    alone-D = numbers-none _ (groups G) (λ g. at (holdsAll G vs g) _ (none-hold g))
+    alone-D = numbers-none _ (groups G) (λ g. at (holdsAll G vs g) (all (noWeaker G vs g) (groups G)) (none-hold g))
       where
         at : (a b : Bool) → a ≡ false → (a && b) ≡ false
         at true b q = absurd (true-not-false refl q)
@@ -153,31 +157,28 @@ module _ (G : Graph) (proper : Proper G) (k : ℕ) (level : minLevel ≤ k) (vs 
 -- ---- D lists the groups that hold the accounts and than which none that does is stronger; E all that do
 
 module _ (G : Graph) (vs : List ℕ) where
-  abbrev stronger : Group → Group → Bool
-  stronger g o = not (holdsAll G vs o) || leb (o .strength) (g .strength)
-
   pub D-only : {g : ℕ} → In g (strongestHolding G vs)
       → (g < groupCount G) × (holdsAll G vs (stored G g) ≡ true)
       × ((h : Group) → In h (groups G) → holdsAll G vs h ≡ true → h .strength ≤ stored G g .strength)
   unfolding strongestHolding
   D-only {g} m =
-      let r = numbers-in (λ (x : Group). holdsAll G vs x && all (stronger x) (groups G)) (groups G) m in (
+      let r = numbers-in (λ (x : Group). holdsAll G vs x && all (noWeaker G vs x) (groups G)) (groups G) m in (
         r .0,
-        and-left (holdsAll G vs (stored G g)) (all (stronger (stored G g)) (groups G)) (r .1),
-        λ h mh c. at h c (all-in (stronger (stored G g)) (groups G) (and-right (holdsAll G vs (stored G g)) (all (stronger (stored G g)) (groups G)) (r .1)) mh),
+        and-left (holdsAll G vs (stored G g)) (all (noWeaker G vs (stored G g)) (groups G)) (r .1),
+        λ h mh c. at h c (all-in (noWeaker G vs (stored G g)) (groups G) (and-right (holdsAll G vs (stored G g)) (all (noWeaker G vs (stored G g)) (groups G)) (r .1)) mh),
       )
     where
-      at : (h : Group) → holdsAll G vs h ≡ true → stronger (stored G g) h ≡ true → h .strength ≤ stored G g .strength
+      at : (h : Group) → holdsAll G vs h ≡ true → noWeaker G vs (stored G g) h ≡ true → h .strength ≤ stored G g .strength
       at h c q = leb-true (h .strength) (stored G g .strength) (rw c at q)
 
   pub D-all : (g : ℕ) → g < groupCount G → holdsAll G vs (stored G g) ≡ true
       → ((h : Group) → In h (groups G) → holdsAll G vs h ≡ true → h .strength ≤ stored G g .strength) → In g (strongestHolding G vs)
   unfolding strongestHolding
   D-all g lg c top =
-      in-numbers (λ (x : Group). holdsAll G vs x && all (stronger x) (groups G)) (groups G) lg
-      (both c (in-all (stronger (stored G g)) (groups G) (λ h mh. at h mh (test (holdsAll G vs h)))))
+      in-numbers (λ (x : Group). holdsAll G vs x && all (noWeaker G vs x) (groups G)) (groups G) lg
+      (both c (in-all (noWeaker G vs (stored G g)) (groups G) (λ h mh. at h mh (test (holdsAll G vs h)))))
     where
-      at : (h : Group) → In h (groups G) → (holdsAll G vs h ≡ true) ⊎ (holdsAll G vs h ≡ false) → stronger (stored G g) h ≡ true
+      at : (h : Group) → In h (groups G) → (holdsAll G vs h ≡ true) ⊎ (holdsAll G vs h ≡ false) → noWeaker G vs (stored G g) h ≡ true
       at h mh (inl d) = rw d (le-leb (h .strength) (stored G g .strength) (top h mh d))
       at h mh (inr d) = rw d refl
 

@@ -16,7 +16,7 @@ use Rattle.truss.specs.Chain.{Joined, InGroup}
 use Rattle.truss.specs.Group.{groupAt, labelsAt}
 use Rattle.truss.specs.Question.{joinedUpTo}
 use Rattle.laws.proofs.Proper.{Proper}
-use Rattle.laws.proofs.Lists.{test, both, largest-max, largest-passes}
+use Rattle.laws.proofs.Lists.{test, both, largest-max, largest-passes, and-left, and-right}
 use Rattle.laws.proofs.Members.{getD-in, in-member, in-any, number-lt, link-of-number}
 use Rattle.laws.proofs.Peeling.{strength-at-most}
 use Rattle.laws.proofs.Chains.{strength-at-least, at-least-strength}
@@ -24,6 +24,7 @@ use Rattle.laws.proofs.Components.{Same}
 use Rattle.laws.proofs.Connected.{same-joined, joined-same}
 use Rattle.laws.proofs.Groups.{size, strengthAt, group-in, in-group, group-self, group-strong}
 use Rattle.laws.proofs.Stored.{groupCount, stored, stored-number, stored-distinct}
+use Rattle.laws.proofs.Sets.{any-number}
 
 -- a triangle of weight w has a link of strength exactly w
 pub weight-exact : (G : Graph) (t : Triangle) → (e : Link) × Has t e × (strength G e ≡ weight G t)

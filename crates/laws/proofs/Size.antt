@@ -2,7 +2,7 @@
 use mathlib.Core.Path.{_≡_, refl, sym, ap, _∙_, subst}
 use mathlib.Core.Logic.{_⊎_, inl, inr, _≢_}
 use mathlib.Core.Bool.{Bool, true, false, cond}
-use mathlib.Core.List.{List, [], _∷_}
+use mathlib.Core.List.{List, [], _∷_, _++_}
 use mathlib.Core.List.{List·Memᴰ as In, List·Memᴰ·head as here, List·Memᴰ·tail as there}
 use Prim.Native.Nat.{ℕ, zero, suc, _+_, _*_, _≤_, _<_, min, max}
 use native.Mathlib.Nat.{le-refl, not-suc-le-zero}
@@ -17,7 +17,7 @@ use Rattle.truss.specs.Strength.{weight}
 use Rattle.truss.specs.Chain.{StrongTriangle}
 use Rattle.truss.specs.Forest.{Join, join, allJoins, singletons, merge, sameComponent, kruskal, forest}
 use Rattle.truss.specs.Group.{groups}
-use Rattle.truss.specs.Index.{Index, index, encode, indexBytes}
+use Rattle.truss.specs.Index.{Index, index, encode, indexBytes, linkBytes, joinBytes, groupBytes}
 use Rattle.laws.proofs.Proper.{Proper}
 use Rattle.laws.proofs.Lists.{test, true-not-false, count-le}
 use Rattle.laws.proofs.Members.{in-filter, range-at, number-lt}
@@ -27,6 +27,7 @@ use Rattle.laws.proofs.Groups.{size}
 use Rattle.laws.proofs.Stored.{few-groups}
 use Rattle.laws.proofs.Tree.{rows-length, group-rows-length}
 use Rattle.laws.proofs.Accepted.{Named, graph-proper, graph-size}
+use Rattle.truss.specs.Record.{endBytes}
 
 pub count-fewer : (p q : ℕ → Bool) (n : ℕ) → ((i : ℕ) → i < n → p i ≡ true → q i ≡ true) → (z : ℕ) → z < n → q z ≡ true → p z ≡ false → count p n < count q n
 unfolding count
