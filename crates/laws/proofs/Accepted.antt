@@ -21,7 +21,7 @@ use Rattle.laws.proofs.Sets.{sorted-append}
 use Rattle.laws.proofs.Ordering.{Distinct, sort-distinct, position-of, sort-length}
 
 -- a check that does not refuse: its test is false, and the checks after it pass
-not-refused : {A : Type 0} (t : Bool) (k p : ℕ) (x : A) (rest : Checked A) → refuseIf t k p rest ≡ passed x → (t ≡ false) × (rest ≡ passed x)
+pub not-refused : {A : Type 0} (t : Bool) (k p : ℕ) (x : A) (rest : Checked A) → refuseIf t k p rest ≡ passed x → (t ≡ false) × (rest ≡ passed x)
 not-refused true k p x rest h = let z : _≡_ {A = ℕ} 0 1 = cc in absurd (omega arith)
 not-refused false k p x rest h = (refl, h)
 
@@ -35,7 +35,7 @@ pub record Named (n : ℕ) (ps : List Pair) : Type 0 where
   pub accounts : n ≤ maxAccounts
   pub links : length ps ≤ maxLinks
 
-read-good : (b : List ℕ) (n r at : ℕ) (seen : List Pair) → GoodPairs n seen → (n′ : ℕ) (ps : List Pair) → readPairs b n r at seen ≡ accepted n′ ps
+pub read-good : (b : List ℕ) (n r at : ℕ) (seen : List Pair) → GoodPairs n seen → (n′ : ℕ) (ps : List Pair) → readPairs b n r at seen ≡ accepted n′ ps
     → (n′ ≡ n) × GoodPairs n ps × (length ps ≡ length seen + r)
 unfolding readPairs
 read-good b n zero at seen g n′ ps h = last (second .1)

@@ -98,7 +98,7 @@ module _ (G : Graph) (proper : Proper G) (accounts : G .n ≤ 65536) (few-links 
             least-fits = first-below (h .members) 65536 (omega arith) (λ i mi. omega (arith, group-in G (h .strength) (s .least) (rw (s .members-eq) at mi) .1));
           })
 
-  index-fits : G .n < 65536 → IndexFits (index G)
+  pub index-fits : G .n < 65536 → IndexFits (index G)
   unfolding index
   index-fits l = record { n-fits = l; m-fits = omega arith; links-fit = link-row-fits; joins-fit = join-fits; groups-fit = group-row-fits }
 

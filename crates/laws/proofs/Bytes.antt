@@ -53,9 +53,19 @@ weight-first : (G : Graph) (t : Triangle) → weight G t ≤ strength G (sideAB 
 unfolding weight
 weight-first G t = omega arith
 
-pub index-bytes : (G : Graph) → Proper G → Distinct (G .links) → size G ≤ maxLinks → Bytes (indexBytes G)
-unfolding indexBytes index linkRow groupRow forest
-index-bytes G proper different few = encode-bytes (index G) (λ r m. links r (map-in (linkRow G (groups G)) (range 0 (size G)) m)) joined (λ r m. grouped r (map-in (groupRow (groups G)) (groups G) m))
+-- strengths and weights of an index are bytes
+pub record SmallRows (x : Index) : Type 0 where
+  pub links-small : (r : LinkRow) → In r (x .links) → r .strength < 256
+  pub joins-small : (y : Join) → In y (x .joins) → y .weight < 256
+  pub groups-small : (r : GroupRow) → In r (x .groups) → r .strength < 256
+
+pub index-small : (G : Graph) → Proper G → Distinct (G .links) → size G ≤ maxLinks → SmallRows (index G)
+unfolding index linkRow groupRow forest
+index-small G proper different few = record {
+  links-small = λ r m. links r (map-in (linkRow G (groups G)) (range 0 (size G)) m);
+  joins-small = joined;
+  groups-small = λ r m. grouped r (map-in (groupRow (groups G)) (groups G) m);
+}
   where
     top : (e : Link) → member (G .links) e ≡ true → strength G e ≤ maxStrength
     top = strength-max G proper different few
@@ -79,3 +89,7 @@ index-bytes G proper different few = encode-bytes (index G) (λ r m. links r (ma
     grouped r (h, m, q) =
         let s = stored-is G m in
         rw q (omega (arith, group-strong G (h .strength) (s .least) (s .least-in), top-at (s .least) (s .least-lt)))
+
+pub index-bytes : (G : Graph) → Proper G → Distinct (G .links) → size G ≤ maxLinks → Bytes (indexBytes G)
+unfolding indexBytes
+index-bytes G proper different few = let s = index-small G proper different few in encode-bytes (index G) (s .links-small) (s .joins-small) (s .groups-small)

@@ -5,9 +5,15 @@ pub mod Lists
 pub mod Members
 pub mod Sets
 pub mod Proper
+pub mod ProperLinks
+pub mod Numbers
+pub mod Sums
 -- strength
 pub mod Peeling
 pub mod Rounds
+-- a set of links loses one link: which supports fall
+pub mod Lowering
+pub mod TriangleWalk
 -- chains, components, the forest
 pub mod Chains
 pub mod Components
@@ -34,3 +40,12 @@ pub mod GroupOrder
 pub mod Bound
 pub mod Size
 pub mod Bytes
+-- the code that grows the forest and numbers the groups
+pub mod UnionFind
+pub mod Unions
+pub mod Halving
+pub mod Sides
+pub mod InOrder
+pub mod Kruskal
+pub mod Weights
+pub mod GroupPlaces

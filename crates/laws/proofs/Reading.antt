@@ -35,7 +35,7 @@ at-position pre suf i j q = ap (λ (x : ℕ). getD (pre ++ suf) x 0) q ∙ getD-
 -- ---- the records after the head
 
 -- one plain link that meets no fault
-read-step : (b : List ℕ) (n r at : ℕ) (seen : List Pair) (x y : ℕ) → whole b at kindPlainLink ≡ true → fieldAt b (at + 1) ≡ x → fieldAt b (at + 3) ≡ y
+pub read-step : (b : List ℕ) (n r at : ℕ) (seen : List Pair) (x y : ℕ) → whole b at kindPlainLink ≡ true → fieldAt b (at + 1) ≡ x → fieldAt b (at + 3) ≡ y
     → x < n → y < n → x ≢ y → member (map linkOf seen) (link x y) ≡ false
     → readPairs b n (suc r) at seen ≡ readPairs b n r (at + 5) (seen ++ (record { first = x; second = y } ∷ []))
 unfolding readPairs bodyLength holdsBody
