@@ -1,0 +1,60 @@
+-- Columns at zero: what `wipe` and `wipe_all` do. Assumes nothing.
+use mathlib.Core.Path.{_≡_, refl, sym, _∙_}
+use mathlib.Core.Logic.{_⊎_, inl, inr, _≢_}
+use mathlib.Core.List.{List}
+use Prim.Native.Nat.{ℕ, _+_, _*_, _-_, _≤_, _<_}
+use native.Mathlib.Omega.{arith}
+use lib.ListN.{length}
+use Rattle.columns.specs.Columns.{cell, store, COLUMNS}
+use Rattle.laws.proofs.Numbers.{same-or-not}
+use Rattle.columns.specs.Laws.{stored, kept-entry, kept-column, length-store}
+
+-- ---- the first e entries of column c at 0, all other columns as they were
+
+pub record Wiping (m c e : ℕ) (w w′ : List ℕ) : Type 0 where
+  pub length-is : length w′ ≡ length w
+  pub zero : (y : ℕ) → y < e → cell w′ m c y ≡ 0
+  pub others : (d y : ℕ) → d ≢ c → y < m → cell w′ m d y ≡ cell w m d y
+
+pub wiping-none : (m c : ℕ) (w : List ℕ) → Wiping m c 0 w w
+wiping-none m c w = record { length-is = refl; zero = λ y l. absurd (omega arith); others = λ d y n l. refl }
+
+pub wiping-more : {m c e : ℕ} {w₀ w w′ : List ℕ} → Wiping m c e w₀ w → c < COLUMNS → e < m → length w₀ ≡ COLUMNS * m → w′ ≡ store w m c e 0 → Wiping m c (e + 1) w₀ w′
+wiping-more {m} {c} {e} {w₀} {w} {w′} W cl el size put = rw put (record {
+  length-is = length-store w m c e 0 ∙ W .length-is;
+  zero = λ y l. go y l (same-or-not y e);
+  others = λ d y n l. kept-column w m c d e y 0 (λ q. n (sym q)) el l ∙ W .others d y n l;
+})
+  where
+    go : (y : ℕ) → y < e + 1 → (y ≡ e) ⊎ (y ≢ e) → cell (store w m c e 0) m c y ≡ 0
+    go y l (inl q) = rw q (stored w m c e 0 cl el (W .length-is ∙ size))
+    go y l (inr q) = kept-entry w m c e y 0 q ∙ W .zero y (omega arith)
+
+pub wiping-all : {m c e : ℕ} {w w′ : List ℕ} → e ≡ m → Wiping m c e w w′ → Wiping m c m w w′
+wiping-all q h = rw q at h
+
+-- ---- columns from `from` up to c at 0
+
+pub record Cleaned (m from c : ℕ) (w w′ : List ℕ) : Type 0 where
+  pub length-is : length w′ ≡ length w
+  pub zero : (d y : ℕ) → from ≤ d → d < c → y < m → cell w′ m d y ≡ 0
+  pub below : (d y : ℕ) → d < from → y < m → cell w′ m d y ≡ cell w m d y
+  pub above : (d y : ℕ) → c ≤ d → y < m → cell w′ m d y ≡ cell w m d y
+
+pub cleaned-none : (m from : ℕ) (w : List ℕ) → Cleaned m from from w w
+cleaned-none m from w = record { length-is = refl; zero = λ d y l k h. absurd (omega arith); below = λ d y l k. refl; above = λ d y l k. refl }
+
+pub cleaned-more : {m from c : ℕ} {w₀ w w′ : List ℕ} → from ≤ c → Cleaned m from c w₀ w → Wiping m c m w w′ → Cleaned m from (c + 1) w₀ w′
+cleaned-more {m} {from} {c} {w₀} {w} {w′} fc C W = record {
+  length-is = W .length-is ∙ C .length-is;
+  zero = λ d y l k h. go d y l k h (same-or-not d c);
+  below = λ d y l k. W .others d y (omega arith) k ∙ C .below d y l k;
+  above = λ d y l k. W .others d y (omega arith) k ∙ C .above d y (omega arith) k;
+}
+  where
+    go : (d y : ℕ) → from ≤ d → d < c + 1 → y < m → (d ≡ c) ⊎ (d ≢ c) → cell w′ m d y ≡ 0
+    go d y l k h (inl q) = rw q (W .zero y h)
+    go d y l k h (inr q) = W .others d y q h ∙ C .zero d y l (omega arith) h
+
+pub cleaned-all : {m from c until : ℕ} {w w′ : List ℕ} → c ≡ until → Cleaned m from c w w′ → Cleaned m from until w w′
+cleaned-all q h = rw q at h

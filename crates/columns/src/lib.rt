@@ -1,0 +1,97 @@
+// The work space: sixteen columns of m numbers in one lent slice. Entry i of column c stands at c * m + i.
+ghost use Prim.Native.Nat.{_+_, _*_, _<_, _≤_};
+ghost use mathlib.Core.Path.{_≡_};
+ghost use lib.ListN.{length};
+ghost use Rattle.columns.specs.Columns.{cell, store, entry, storeEntry, COLUMNS, mostLinks, entryBound};
+ghost use Rattle.columns.specs.Wiping.{Wiping, Cleaned};
+
+// What each column holds while strengths are computed. Columns 1 and 2 are one, of two entries for each link.
+pub const KEY: usize = 0;
+
+pub const NEAR: usize = 1;
+
+pub const SUPPORT: usize = 3;
+
+pub const STRENGTH: usize = 4;
+
+pub const QUEUE: usize = 5;
+
+pub const COLUMNS: usize = 16;
+
+// Two numbers below HALF share an entry: a * HALF + b.
+pub const HALF: usize = 65536;
+
+// The most accounts.
+pub const ACCOUNTS: usize = 1024;
+
+// Above every support.
+pub const NO_SUPPORT: usize = 65536;
+
+// Entry i of column c.
+pub fn get(w: &[u32], m: usize, c: usize, i: usize) -> usize
+    requires { ⌜ c < COLUMNS ⌝ }
+    requires { ⌜ i < m ⌝ }
+    requires { ⌜ length (now w) ≡ COLUMNS * m ⌝ }
+    ensures { λ r. ⌜ (r ≡ cell (now (w .entry)) m c i) × (r < entryBound) ⌝ }
+{
+    w[c * m + i] as usize
+}
+
+// A store at entry i of column c.
+pub fn put(w: &mut [u32], m: usize, c: usize, i: usize, x: usize)
+    requires { ⌜ c < COLUMNS ⌝ }
+    requires { ⌜ i < m ⌝ }
+    requires { ⌜ x < entryBound ⌝ }
+    requires { ⌜ length (now w) ≡ COLUMNS * m ⌝ }
+    ensures { λ _. ⌜ now (w .exit) ≡ store (now (w .entry)) m c i x ⌝ }
+{
+    w[c * m + i] = x as u32;
+}
+
+// Entry i of the two columns 1 and 2 seen as one of 2 * m entries.
+pub fn near(w: &[u32], m: usize, i: usize) -> usize
+    requires { ⌜ i < 2 * m ⌝ }
+    requires { ⌜ length (now w) ≡ COLUMNS * m ⌝ }
+    ensures { λ r. ⌜ (r ≡ entry (now (w .entry)) m i) × (r < entryBound) ⌝ }
+{
+    w[m + i] as usize
+}
+
+// A store there.
+pub fn put_near(w: &mut [u32], m: usize, i: usize, x: usize)
+    requires { ⌜ i < 2 * m ⌝ }
+    requires { ⌜ x < entryBound ⌝ }
+    requires { ⌜ length (now w) ≡ COLUMNS * m ⌝ }
+    ensures { λ _. ⌜ now (w .exit) ≡ storeEntry (now (w .entry)) m i x ⌝ }
+{
+    w[m + i] = x as u32;
+}
+
+// Column c at 0.
+pub fn wipe(w: &mut [u32], m: usize, c: usize)
+    requires { ⌜ length (now w) ≡ COLUMNS * m ⌝ }
+    requires { ⌜ c < COLUMNS ⌝ }
+    requires { ⌜ m ≤ mostLinks ⌝ }
+    ensures { λ _. ⌜ Wiping m c m (now (w .entry)) (now (w .exit)) ⌝ }
+{
+    let mut e: usize = 0;
+    while e < m {
+        put(w, m, c, e, 0);
+        e += 1;
+    }
+}
+
+// The columns from .. until at 0.
+pub fn wipe_all(w: &mut [u32], m: usize, from: usize, until: usize)
+    requires { ⌜ length (now w) ≡ COLUMNS * m ⌝ }
+    requires { ⌜ from ≤ until ⌝ }
+    requires { ⌜ until ≤ COLUMNS ⌝ }
+    requires { ⌜ m ≤ mostLinks ⌝ }
+    ensures { λ _. ⌜ Cleaned m from until (now (w .entry)) (now (w .exit)) ⌝ }
+{
+    let mut c = from;
+    while c < until {
+        wipe(w, m, c);
+        c += 1;
+    }
+}

@@ -1,0 +1,38 @@
+-- `peeling::peel::peel` meets its contract. Assumes nothing.
+use Rattle.peeling.specs.Peel.{peel-levels, peel-done}
+use borrow.Author.Needs.{needs}
+use Rattle.peeling.proofs.peel.peel.Statement.{statement}
+use Rattle.peeling.proofs.peel.peel.Tie as tie
+
+wipe-requires : tie.Need-wipe-requires
+wipe-requires c κs = search needs
+
+peel-levels-requires : tie.Need-peel-levels-requires
+peel-levels-requires c κs = (c .before .before .before .before .before .before .before .before .before .pre .0, peel-levels (c .before .before .before .before .before .before .before .before .before .pre .1) (c .before .before .before .before .wipe .ensures))
+
+wipe-requires-2 : tie.Need-wipe-requires-2
+wipe-requires-2 c κs = search needs
+
+zero-requires : tie.Need-zero-requires
+zero-requires c κs = search needs
+
+same-length : tie.Need-same-length
+same-length c = search needs
+
+same-length-2 : tie.Need-same-length-2
+same-length-2 c = search needs
+
+returns : tie.Need-returns
+returns c = λ G P. peel-done P (c .before .before .before .before .before .before .before .before .before .before .before .before .before .before .before .before .before .wipe .ensures) (c .before .before .before .before .before .before .before .before .before .before .before .before .peel-levels .ensures G (peel-levels P (c .before .before .before .before .before .before .before .before .before .before .before .before .before .before .before .before .before .wipe .ensures))) (c .before .before .before .before .before .before .wipe2 .ensures) (c .before .before .zero .ensures)
+
+pub peel-spec : {M : Type 1} → statement M
+peel-spec =
+    tie.close
+    (tie.spec
+    wipe-requires
+    peel-levels-requires
+    wipe-requires-2
+    zero-requires
+    same-length
+    same-length-2
+    returns)

@@ -1,0 +1,4 @@
+-- What the functions of the peeling say, and why it is so.
+pub mod Drain
+pub mod Seed
+pub mod Peel

@@ -1,0 +1,8 @@
+-- What the removal of one link says, and why it is so.
+pub mod Queue
+pub mod State
+pub mod Level
+pub mod Take
+pub mod Turn
+pub mod Centre
+pub mod Remove

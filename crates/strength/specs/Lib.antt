@@ -1,0 +1,3 @@
+-- The strength type, and what `strengths` says.
+pub mod Range
+pub mod Whole

@@ -1,0 +1,2 @@
+-- Why a column of rising keys names a card.
+pub mod Keys
