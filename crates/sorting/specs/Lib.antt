@@ -1,0 +1,5 @@
+-- Sorting records by their keys: chains of records, the order they give, and both in the work space.
+pub mod Chains
+pub mod Order
+pub mod State
+pub mod Gives

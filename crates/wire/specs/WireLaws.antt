@@ -1,0 +1,57 @@
+-- The table of kinds beyond its known ones, and when a whole record stands at a place. Assumes nothing.
+use mathlib.Core.Path.{_≡_, refl, sym, ap, _∙_}
+use mathlib.Core.Logic.{_⊎_, inl, inr, _≢_}
+use mathlib.Core.Option.{none, some}
+use mathlib.Core.Bool.{Bool, true, false, _&&_}
+use mathlib.Core.List.{List}
+use Prim.Native.Nat.{ℕ, zero, suc, _+_, _-_, _≤_, _<_}
+use native.Mathlib.Omega.{arith}
+use lib.Dec.{eqb, ltb, leb}
+use lib.ListN.{length}
+use borrow.Author.Tests.{lt-ltb, le-ltb, le-leb, lt-leb, eq-eqb, ne-eqb}
+use Rattle.truss.specs.Record.{bodyLength, byteAt, holdsBody, whole}
+use Rattle.laws.proofs.Numbers.{less-or-not}
+use Rattle.wire.specs.Wire.{bodyOf}
+use Rattle.wire.specs.declared.Body.{Body}
+use Rattle.wire.specs.declared.Body.the-variants.{Length, Unknown}
+
+-- a kind that is none of the six has no body length
+pub unknown : (k : ℕ) → k ≢ 1 → k ≢ 2 → k ≢ 3 → k ≢ 4 → k ≢ 5 → k ≢ 6 → none ≡ bodyLength k
+unfolding bodyLength
+unknown zero a b c d e f = refl
+unknown (suc zero) a b c d e f = absurd (a refl)
+unknown (suc (suc zero)) a b c d e f = absurd (b refl)
+unknown (suc (suc (suc zero))) a b c d e f = absurd (c refl)
+unknown (suc (suc (suc (suc zero)))) a b c d e f = absurd (d refl)
+unknown (suc (suc (suc (suc (suc zero))))) a b c d e f = absurd (e refl)
+unknown (suc (suc (suc (suc (suc (suc zero)))))) a b c d e f = absurd (f refl)
+unknown (suc (suc (suc (suc (suc (suc (suc k))))))) a b c d e f = refl
+
+and-false : (a : Bool) → (a && false) ≡ false
+and-false true = refl
+and-false false = refl
+
+module _ (b : List ℕ) (at kind : ℕ) where
+  -- past the last byte
+  pub whole-past : length b ≤ at → false ≡ whole b at kind
+  unfolding holdsBody
+  whole-past l = go (bodyLength kind) refl
+    where
+      go : (x : mathlib.Core.Option.Option ℕ) → bodyLength kind ≡ x → false ≡ whole b at kind
+      go none q = rw q (sym (and-false (eqb (byteAt b at) kind)))
+      go (some z) q = rw (q, lt-leb (at + 1 + z) (length b) (omega arith)) (sym (and-false (eqb (byteAt b at) kind)))
+
+  pub whole-other : byteAt b at ≢ kind → false ≡ whole b at kind
+  whole-other n = rw (ne-eqb (byteAt b at) kind n) refl
+
+  pub whole-unknown : none ≡ bodyLength kind → false ≡ whole b at kind
+  unfolding holdsBody
+  whole-unknown q = rw (← q) (sym (and-false (eqb (byteAt b at) kind)))
+
+  pub whole-known : (l : ℕ) → at < length b → byteAt b at ≡ kind → some l ≡ bodyLength kind → ltb l (length b - at) ≡ whole b at kind
+  unfolding holdsBody
+  whole-known l in-range is q = rw (← q, eq-eqb (byteAt b at) kind is) (go (less-or-not l (length b - at)))
+    where
+      go : (l < length b - at) ⊎ (length b - at ≤ l) → ltb l (length b - at) ≡ leb (at + 1 + l) (length b)
+      go (inl c) = rw (lt-ltb l (length b - at) c, le-leb (at + 1 + l) (length b) (omega arith)) refl
+      go (inr c) = rw (le-ltb l (length b - at) c, lt-leb (at + 1 + l) (length b) (omega arith)) refl
