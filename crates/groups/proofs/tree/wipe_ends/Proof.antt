@@ -1,0 +1,52 @@
+-- `groups::tree::wipe_ends` meets its contract. Assumes nothing.
+use Rattle.groups.specs.Whole.{ends-done}
+use lib.ListN.{length}
+use Prim.Native.Nat.{ℕ, _+_, _*_, _-_, _≤_, _<_}
+use native.Mathlib.Omega.{arith}
+use mathlib.Core.Path.{_≡_, refl, _∙_, ap, sym}
+use borrow.Author.Needs.{needs}
+use Rattle.groups.proofs.tree.wipe_ends.Statement.{statement}
+use Rattle.groups.proofs.tree.wipe_ends.Tie as tie
+use Rattle.groups.proofs.tree.wipe_ends.Reads as reads
+use Rattle.groups.proofs.tree.wipe_ends.Lts as lts
+use Rattle.groups.proofs.tree.wipe.Reads as wipe-reads
+
+-- src/tree.rt:87:5
+wipe-requires : tie.Need-wipe-requires
+wipe-requires c κs = search needs
+
+-- src/tree.rt:88:5
+wipe-requires-2 : tie.Need-wipe-requires-2
+wipe-requires-2 c κs = search needs
+
+-- src/tree.rt:89:5
+wipe-requires-3 : tie.Need-wipe-requires-3
+wipe-requires-3 c κs = search needs
+
+-- src/tree.rt:90:5
+wipe-requires-4 : tie.Need-wipe-requires-4
+wipe-requires-4 c κs = search needs
+
+-- src/tree.rt:91:5
+wipe-requires-5 : tie.Need-wipe-requires-5
+wipe-requires-5 c κs = search needs
+
+-- src/tree.rt:80:1
+same-length : tie.Need-same-length
+same-length c = search needs
+
+-- src/tree.rt:80:1
+returns : tie.Need-returns
+returns c = ends-done (c .before .before .before .before .before .before .before .before .before .before .before .before .before .before .before .before .before .before .wipe .ensures) (c .before .before .before .before .before .before .before .before .before .before .before .before .before .before .wipe2 .ensures) (c .before .before .before .before .before .before .before .before .before .before .wipe3 .ensures) (c .before .before .before .before .before .before .wipe4 .ensures) (c .before .before .wipe5 .ensures)
+
+pub wipe-ends-spec : {M : Type 1} → statement M
+wipe-ends-spec =
+    tie.close
+    (tie.spec
+    wipe-requires
+    wipe-requires-2
+    wipe-requires-3
+    wipe-requires-4
+    wipe-requires-5
+    same-length
+    returns)

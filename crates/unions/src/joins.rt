@@ -1,0 +1,58 @@
+// One join of the forest.
+ghost use mathlib.Core.Path.{_≡_};
+ghost use Prim.Native.Nat.{_+_, _*_, _<_, _≤_, min, max};
+ghost use lib.ListN.{length};
+ghost use Rattle.unions.specs.Joins.{UnitePre, united, JoinAsks, JoinGives};
+use crate::roots::find;
+use columns::get;
+use columns::put;
+
+pub fn lesser(a: usize, b: usize) -> usize
+    ensures { λ r. ⌜ r ≡ min a b ⌝ }
+{
+    if a < b { a } else { b }
+}
+
+pub fn greater(a: usize, b: usize) -> usize
+    ensures { λ r. ⌜ r ≡ max a b ⌝ }
+{
+    if a < b { b } else { a }
+}
+
+// The greater of the roots a and b gets the lesser for a parent; the join of e and f is the next of the forest.
+pub fn unite(
+    w: &mut [u32],
+    m: usize,
+    a: usize,
+    b: usize,
+    e: usize,
+    f: usize,
+    k: usize,
+    joins: usize,
+)
+    requires { ⌜ UnitePre m a b e f k joins (now w) ⌝ }
+    ensures { λ _. ⌜ now (w .exit) ≡ united m a b e f k joins (now (w .entry)) ⌝ }
+{
+    let x = lesser(a, b);
+    let y = greater(a, b);
+    put(w, m, 6, y, x);
+    put(w, m, 9, joins, e * 65536 + f);
+    put(w, m, 10, joins, k);
+}
+
+// The join of the links e and f, of weight k, taken if it closes no ring. Gives the number of joins.
+pub fn join(w: &mut [u32], m: usize, e: usize, f: usize, k: usize, joins: usize) -> usize
+    requires { ⌜ JoinAsks m e f k joins (now w) ⌝ }
+    ensures { λ r. ⌜ JoinGives m e f k joins r (now (w .entry)) (now (w .exit)) ⌝ }
+{
+    if get(w, m, 6, e) == get(w, m, 6, f) {
+        return joins;
+    }
+    let a = find(w, m, e);
+    let b = find(w, m, f);
+    if a == b {
+        return joins;
+    }
+    unite(w, m, a, b, e, f, k, joins);
+    joins + 1
+}

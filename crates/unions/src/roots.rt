@@ -1,0 +1,31 @@
+// The union-find forest of the links, in column 6: a parent is never above its child, so a root is the least link of its component.
+ghost use mathlib.Core.Path.{_≡_};
+ghost use Prim.Native.Nat.{_+_, _*_, _<_, _≤_};
+ghost use lib.ListN.{length};
+ghost use Rattle.unions.specs.Find.{FindPre, Found, HalvePre, Halved};
+use columns::get;
+use columns::put;
+
+// Hangs x, whose parent is p, under p's parent, and gives that.
+pub fn halve(w: &mut [u32], m: usize, x: usize, p: usize) -> usize
+    requires { ⌜ HalvePre m x p (now w) ⌝ }
+    ensures { λ r. ⌜ Halved m x r (now (w .entry)) (now (w .exit)) ⌝ }
+{
+    let q = get(w, m, 6, p);
+    put(w, m, 6, x, q);
+    q
+}
+
+// The root of a link; halves the path on the way.
+pub fn find(w: &mut [u32], m: usize, from: usize) -> usize
+    requires { ⌜ FindPre m from (now w) ⌝ }
+    ensures { λ r. ⌜ Found m from r (now (w .entry)) (now (w .exit)) ⌝ }
+{
+    let mut x = from;
+    let mut p = get(w, m, 6, x);
+    while p != x {
+        x = halve(w, m, x, p);
+        p = get(w, m, 6, x);
+    }
+    x
+}
