@@ -1,0 +1,69 @@
+/* Builds card A of document 01 as a C host would, and compares the index with the 84 bytes that the document prints. */
+#include "footballelm.h"
+
+#include <stdio.h>
+#include <string.h>
+
+static const uint8_t LINKS[36] = {
+    1, 0, 5, 0, 6,
+    6, 0, 0, 0, 1,  6, 0, 0, 0, 2,  6, 0, 1, 0, 2,  6, 0, 1, 0, 3,  6, 0, 2, 0, 3,  6, 0, 3, 0, 4,
+    5,
+};
+
+static const uint8_t INDEX[84] = {
+    1, 0, 5, 0, 6,
+    2, 0, 0, 0, 1, 3, 0, 0,
+    2, 0, 0, 0, 2, 3, 0, 0,
+    2, 0, 1, 0, 2, 3, 0, 0,
+    2, 0, 1, 0, 3, 3, 0, 0,
+    2, 0, 2, 0, 3, 3, 0, 0,
+    2, 0, 3, 0, 4, 2, 0xFF, 0xFF,
+    3, 0, 0, 0, 1, 3,
+    3, 0, 0, 0, 2, 3,
+    3, 0, 2, 0, 3, 3,
+    3, 0, 2, 0, 4, 3,
+    4, 0xFF, 0xFF, 3, 0, 0,
+    5,
+};
+
+static int passed, failed;
+
+static void check(const char *name, int holds) {
+    if (holds) {
+        passed++;
+    } else {
+        failed++;
+        printf("FAILED build_a: %s\n", name);
+    }
+}
+
+static int is(fe_reply r, uint32_t refusal, uint32_t value) {
+    return r.refusal == refusal && r.value == value && r.second == 0 && r.third == 0;
+}
+
+static int all(const uint8_t *bytes, size_t from, size_t to, uint8_t value) {
+    for (size_t i = from; i < to; i++)
+        if (bytes[i] != value) return 0;
+    return 1;
+}
+
+int main(void) {
+    static uint8_t index[FE_INDEX_MAX];
+
+    memset(index, 0xA5, sizeof index);
+    check("reply", is(fe_build(LINKS, sizeof LINKS, index, sizeof index), 0, sizeof INDEX));
+    check("index", memcmp(index, INDEX, sizeof INDEX) == 0);
+    check("bytes after the index", all(index, sizeof INDEX, sizeof index, 0xA5));
+
+    memset(index, 0xA5, sizeof index);
+    check("exact buffer", is(fe_build(LINKS, sizeof LINKS, index, sizeof INDEX), 0, sizeof INDEX));
+    check("index in an exact buffer", memcmp(index, INDEX, sizeof INDEX) == 0 && all(index, sizeof INDEX, sizeof index, 0xA5));
+
+    memset(index, 0xA5, sizeof index);
+    check("short buffer is 12", is(fe_build(LINKS, sizeof LINKS, index, sizeof INDEX - 1), 12, 0));
+    check("no end is 1 at 35", is(fe_build(LINKS, sizeof LINKS - 1, index, sizeof index), 1, 35));
+    check("bytes after a refusal", all(index, 0, sizeof index, 0xA5));
+
+    printf("%d passed, %d failed\n", passed, failed);
+    return failed != 0;
+}

@@ -1,0 +1,185 @@
+//! Matches the library's C calls against the reference, an independent program, on random, shuffled and damaged files and on files at the limits.
+//!
+//! With no word: all of it. With a number: the files of that seed. With a name: that file at the limits.
+//! The last line is `N passed, M failed`, one for each file compared and for each planted fault that the comparison must find.
+
+mod lent;
+mod limits;
+mod planted;
+
+use std::process::ExitCode;
+
+use lent::{compare_all, BUILD};
+use limits::Said;
+use reference::card::{links_file, Card};
+use reference::damage;
+use reference::limits::MAX_LINKS;
+use reference::random::{card, shuffle_pairs, Random, Shape};
+
+/// Each seed makes a card, a shuffled copy of it and two damaged ones.
+const SEEDS: u64 = 6_000;
+
+/// So many failures show the file's bytes; the others can be repeated.
+const SHOWN: usize = 5;
+
+#[derive(Default)]
+struct Count {
+    passed: usize,
+    failed: usize,
+    /// Links files by what the reference says of them: 0 accepted, else refused by that number.
+    met: [usize; 7],
+}
+
+impl Count {
+    /// One file compared. A failure says how to repeat just it.
+    fn add(&mut self, word: &str, file: &[u8], what: &str, found: Result<(), String>) {
+        let Err(text) = found else {
+            self.passed += 1;
+            return;
+        };
+        self.failed += 1;
+        println!("FAILED {word}, {what}: {text}");
+        if self.failed <= SHOWN {
+            let hex: String = file.iter().map(|byte| format!("{byte:02x}")).collect();
+            println!("  file: {hex}");
+        }
+        println!("  repeat: bash tests/run {word}");
+    }
+
+    /// Compares the build of one links file.
+    fn build(&mut self, random: &mut Random, file: &[u8]) -> Result<Option<Vec<u8>>, String> {
+        let refused = Card::read(file).err();
+        self.met[refused.map_or(0, |refusal| refusal.number.into())] += 1;
+        compare_all(&BUILD, random, file)
+    }
+}
+
+fn seed(count: &mut Count, seed: u64) {
+    // What is drawn must not depend on what is found, so lent memory has numbers of its own.
+    let (mut random, mut noise) = (Random::new(seed), Random::new(!seed));
+    let shape = Shape::ALL[seed as usize % Shape::ALL.len()];
+    let most = match random.below(8) {
+        0 => MAX_LINKS.into(),
+        1 => random.within(1..=MAX_LINKS.into()),
+        2 | 3 => random.within(1..=300),
+        _ => random.within(1..=60),
+    };
+    let word = seed.to_string();
+    let whole = card(&mut random, shape.0, most);
+    let built = count.build(&mut noise, &whole);
+    let index = built.clone().ok().flatten();
+    let taken = built.and_then(|index| index.map(drop).ok_or("a good card refused".to_string()));
+    count.add(&word, &whole, shape.1, taken);
+
+    let drawn = Card::read(&whole).expect("random::card draws good cards");
+    let mut pairs = drawn.links;
+    shuffle_pairs(&mut random, &mut pairs);
+    let shuffled = links_file(drawn.accounts, &pairs);
+    let again = count.build(&mut noise, &shuffled);
+    let same = again.and_then(|again| {
+        if again == index {
+            Ok(())
+        } else {
+            Err("another index than before shuffling".to_string())
+        }
+    });
+    count.add(&word, &shuffled, &format!("{} shuffled", shape.1), same);
+
+    for _ in 0..2 {
+        let damaged = damage::links(&mut random, &whole);
+        let found = count.build(&mut noise, &damaged).map(drop);
+        count.add(&word, &damaged, &format!("{} damaged", shape.1), found);
+    }
+
+    #[cfg(feature = "read")]
+    if let Some(index) = index {
+        let damaged = damage::index(&mut random, &index);
+        for (what, bytes) in [("index", index), ("damaged index", damaged)] {
+            let found = compare_all(&lent::READ, &mut noise, &bytes).map(drop);
+            count.add(&word, &bytes, &format!("{} {what}", shape.1), found);
+        }
+    }
+}
+
+/// The comparison itself: it must find each fault planted in a call.
+fn planted_faults(count: &mut Count) {
+    for (name, found) in planted::found() {
+        if found {
+            count.passed += 1;
+        } else {
+            count.failed += 1;
+            println!("FAILED planted fault not found: {name}");
+        }
+    }
+}
+
+fn at_the_limits(count: &mut Count, only: Option<&str>) {
+    let wanted = |name: &str| only.is_none_or(|only| only == name);
+    for limit in limits::all().iter().filter(|limit| wanted(&limit.name)) {
+        let mut random = Random::new(limit.file.len() as u64);
+        let found = count
+            .build(&mut random, &limit.file)
+            .and_then(|index| as_said(limit, index));
+        count.add(&limit.name, &limit.file, "at the limits", found);
+    }
+    for (name, file) in limits::card_a_changed()
+        .iter()
+        .filter(|(name, _)| wanted(name))
+    {
+        let mut random = Random::new(1);
+        let found = count.build(&mut random, file).map(drop);
+        count.add(name, file, "one byte changed", found);
+    }
+}
+
+/// Library and reference agree; now they and document 01.
+fn as_said(limit: &limits::Limit, index: Option<Vec<u8>>) -> Result<(), String> {
+    let holds = match (&limit.said, &index) {
+        (Said::Length(length), Some(index)) => index.len() == *length,
+        (Said::Index(bytes), Some(index)) => index == bytes,
+        (Said::Strength(links, strength), Some(index)) => {
+            let records = index[5..].chunks(8).take(*links);
+            records.clone().count() == *links && records.clone().all(|link| link[5] == *strength)
+        }
+        (Said::Accepted, Some(_)) => true,
+        (Said::Refused(number, place), None) => {
+            let reply = terminal::build(&limit.file, &mut []);
+            (reply.refusal, reply.value) == (*number, *place)
+        }
+        _ => false,
+    };
+    if holds {
+        Ok(())
+    } else {
+        Err("not what document 01 says".to_string())
+    }
+}
+
+fn main() -> ExitCode {
+    let mut count = Count::default();
+    match std::env::args().nth(1) {
+        None => {
+            planted_faults(&mut count);
+            at_the_limits(&mut count, None);
+            (0..SEEDS).for_each(|number| seed(&mut count, number));
+            println!(
+                "links files accepted, and refused by 1 to 6: {:?}",
+                count.met
+            );
+            if count.met.contains(&0) {
+                count.failed += 1;
+                println!("FAILED: some refusal was never met");
+            }
+        }
+        Some(word) => match word.parse() {
+            Ok(number) => seed(&mut count, number),
+            Err(_) => at_the_limits(&mut count, Some(&word)),
+        },
+    }
+    println!("{} passed, {} failed", count.passed, count.failed);
+    if count.failed == 0 && count.passed > 0 {
+        ExitCode::SUCCESS
+    } else {
+        ExitCode::FAILURE
+    }
+}
