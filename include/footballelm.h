@@ -17,8 +17,9 @@ typedef struct {
     uint32_t refusal, value, second, third;
 } fe_reply;
 
-/* Bytes that are enough for any index. */
+/* Bytes that are enough for any index, and for any links file. */
 #define FE_INDEX_MAX 40960
+#define FE_LINKS_MAX 10246
 
 /* Bytes of stack that are enough for any call, below the caller's frame. Measured by tests/c/stack.c, not proved: fe_build took 139,575 of them. A
  * thread needs this and what its own functions and the C library take. */
@@ -55,6 +56,19 @@ typedef struct {
  *   the buffer
  *     12  the index is longer than index_len; a buffer of just its length suffices */
 fe_reply fe_build(const uint8_t *links, size_t links_len, uint8_t *index, size_t index_len);
+
+/* Reads an index back into a links file.
+ *
+ *   index, index_len  the index; it is only read. Any bytes may be lent.
+ *   links, links_len  where the links file goes; what it held before does not matter.
+ *
+ * Done: the links file is the first `value` bytes at `links`; the bytes after it stay. It names the links in the index's order, the lower account first. Building
+ * it gives the same index again.
+ *
+ * Refused, with place 0:
+ *     7   the bytes are not the index of any links file: every strength, join and group is checked, so this costs about one build
+ *     12  the links file is longer than links_len; a buffer of just its length suffices */
+fe_reply fe_read(const uint8_t *index, size_t index_len, uint8_t *links, size_t links_len);
 
 #ifdef __cplusplus
 }

@@ -46,7 +46,7 @@ pub record Replies (r : CReply) (refusal value : ℕ) : Type 0 where
   pub is-second : r .second ≡ 0
   pub is-third : r .third ≡ 0
 
-reply-same : {r : CReply} {k v : ℕ} → Replies r k v → replyIn r ≡ record { refusal = k; value = v; second = 0; third = 0 }
+pub reply-same : {r : CReply} {k v : ℕ} → Replies r k v → replyIn r ≡ record { refusal = k; value = v; second = 0; third = 0 }
 reply-same R =
     let a = R .is-refusal in
     let b = R .is-value in
@@ -54,7 +54,7 @@ reply-same R =
     let d = R .is-third in
     λ i. record { refusal = a i; value = b i; second = c i; third = d i }
 
-reply-with : {r : CReply} {k v : ℕ} (bytes : List ℕ) → Replies r k v → replied r bytes ≡ record { reply = record { refusal = k; value = v; second = 0; third = 0 }; buffer = bytes }
+pub reply-with : {r : CReply} {k v : ℕ} (bytes : List ℕ) → Replies r k v → replied r bytes ≡ record { reply = record { refusal = k; value = v; second = 0; third = 0 }; buffer = bytes }
 reply-with bytes R = let q = reply-same R in λ i. record { reply = q i; buffer = bytes }
 
 module _ {n m joins groups len : ℕ} {ps : List Pair} {w : List ℕ} (out : List ℕ) (S : Solved n m joins groups ps w) (is-len : len ≡ 6 + m * 8 + joins * 6 + groups * 6) where

@@ -3,3 +3,4 @@ pub mod Solved
 pub mod Build
 pub mod BuildDemand3
 pub mod Strong
+pub mod Read
