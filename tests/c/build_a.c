@@ -1,4 +1,4 @@
-/* Builds card A of document 01 as a C host would, and compares the index with the 84 bytes that the document prints. */
+/* Builds card A of document 01 as a C host would, compares the index with the 84 bytes that the document prints, and reads it back. */
 #include "footballelm.h"
 
 #include <stdio.h>
@@ -48,7 +48,7 @@ static int all(const uint8_t *bytes, size_t from, size_t to, uint8_t value) {
 }
 
 int main(void) {
-    static uint8_t index[FE_INDEX_MAX];
+    static uint8_t index[FE_INDEX_MAX], links[FE_LINKS_MAX], altered[sizeof INDEX];
 
     memset(index, 0xA5, sizeof index);
     check("reply", is(fe_build(LINKS, sizeof LINKS, index, sizeof index), 0, sizeof INDEX));
@@ -63,6 +63,16 @@ int main(void) {
     check("short buffer is 12", is(fe_build(LINKS, sizeof LINKS, index, sizeof INDEX - 1), 12, 0));
     check("no end is 1 at 35", is(fe_build(LINKS, sizeof LINKS - 1, index, sizeof index), 1, 35));
     check("bytes after a refusal", all(index, 0, sizeof index, 0xA5));
+
+    memset(links, 0xA5, sizeof links);
+    check("read back", is(fe_read(INDEX, sizeof INDEX, links, sizeof links), 0, sizeof LINKS));
+    check("links read back", memcmp(links, LINKS, sizeof LINKS) == 0 && all(links, sizeof LINKS, sizeof links, 0xA5));
+    memset(links, 0xA5, sizeof links);
+    check("short buffer for links is 12", is(fe_read(INDEX, sizeof INDEX, links, sizeof LINKS - 1), 12, 0));
+    memcpy(altered, INDEX, sizeof INDEX);
+    altered[5 + 6 * 8 + 2 * 6 + 2] = 1; /* the third join: 1 and 3 for 2 and 3 */
+    check("an altered join is 7", is(fe_read(altered, sizeof altered, links, sizeof links), 7, 0));
+    check("bytes after a refused reading", all(links, 0, sizeof links, 0xA5));
 
     printf("%d passed, %d failed\n", passed, failed);
     return failed != 0;

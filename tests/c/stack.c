@@ -9,8 +9,10 @@
 
 enum { PAINT = 0xA5, STACK = 1 << 20, ACCOUNTS = 64, LINKS = ACCOUNTS * (ACCOUNTS - 1) / 2 };
 
-static uint8_t links[5 + 5 * LINKS + 1], index_bytes[FE_INDEX_MAX];
-static size_t room = sizeof index_bytes;
+enum call { NONE, BUILD, READ };
+
+static uint8_t links[5 + 5 * LINKS + 1], index_bytes[FE_INDEX_MAX], back[FE_LINKS_MAX];
+static size_t room = sizeof index_bytes, length;
 static fe_reply reply;
 static char *stack;
 static uintptr_t entry;
@@ -26,20 +28,22 @@ static size_t draw(void) {
     return (size_t)(at - links);
 }
 
-static void *run(void *calls) {
+static void *run(void *given) {
     char here;
+    enum call call = *(enum call *)given;
     entry = (uintptr_t)&here;
-    if (calls) reply = fe_build(links, sizeof links, index_bytes, room);
+    if (call == BUILD) reply = fe_build(links, sizeof links, index_bytes, room);
+    if (call == READ) reply = fe_read(index_bytes, length, back, room);
     return NULL;
 }
 
 /* Bytes of the stack below the thread's own frame that are no longer paint. */
-static long deep(int calls) {
+static long deep(enum call call) {
     pthread_attr_t attr;
     pthread_t thread;
     memset(stack, PAINT, STACK);
     if (pthread_attr_init(&attr) || pthread_attr_setstack(&attr, stack, STACK)) return -1;
-    if (pthread_create(&thread, &attr, run, calls ? stack : NULL) || pthread_join(thread, NULL)) return -1;
+    if (pthread_create(&thread, &attr, run, &call) || pthread_join(thread, NULL)) return -1;
     pthread_attr_destroy(&attr);
     char *low = stack;
     while ((uintptr_t)low < entry && *low == (char)PAINT) low++;
@@ -50,13 +54,17 @@ int main(void) {
     int failed = 0;
     stack = aligned_alloc(1 << 16, STACK);
     if (!stack || draw() != sizeof links) return 2;
-    long none = deep(0), call = deep(1);
-    failed += none < 0 || call <= none || reply.refusal != 0;
+    long none = deep(NONE), build = deep(BUILD);
+    failed += none < 0 || build <= none || reply.refusal != 0;
+    length = reply.value;
+    room = sizeof back;
+    long read = deep(READ);
+    failed += read <= none || reply.refusal != 0;
     room = 0;
-    long refused = deep(1);
+    long refused = deep(BUILD);
     failed += refused < 0 || reply.refusal != 12;
-    printf("stack: fe_build took %ld bytes, %ld when refused; FE_STACK_MAX is %d\n", call, refused, FE_STACK_MAX);
-    failed += call > FE_STACK_MAX || refused > FE_STACK_MAX;
+    printf("stack: fe_build took %ld bytes, %ld when refused, fe_read %ld; FE_STACK_MAX is %d\n", build, refused, read, FE_STACK_MAX);
+    failed += build > FE_STACK_MAX || refused > FE_STACK_MAX || read > FE_STACK_MAX;
     if (failed) printf("FAILED stack\n");
     printf("%d passed, %d failed\n", failed == 0, failed != 0);
     return failed != 0;

@@ -4,3 +4,4 @@ pub mod Build
 pub mod BuildDemand3
 pub mod Strong
 pub mod Read
+pub mod ReadsBack

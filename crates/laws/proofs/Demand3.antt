@@ -23,7 +23,7 @@ take-front [] ys = refl
 take-front (x ∷ xs) ys = ap {B = List ℕ} (λ zs. x ∷ zs) (take-front xs ys)
 
 -- what is written for a result that passed is that result, if the write is not refused
-written-is : (r lent b : List ℕ) → write (checkRoom (passed r) lent) lent .reply ≡ done (length b) → take (length b) (write (checkRoom (passed r) lent) lent .buffer) ≡ b → b ≡ r
+pub written-is : (r lent b : List ℕ) → write (checkRoom (passed r) lent) lent .reply ≡ done (length b) → take (length b) (write (checkRoom (passed r) lent) lent .buffer) ≡ b → b ≡ r
 unfolding write checkRoom andThen
 written-is r lent b = go (test (ltb (length lent) (length r)))
   where

@@ -16,7 +16,6 @@ pub const BUILD: Pair = Pair {
     reference: reference::fast::build,
 };
 
-#[cfg(feature = "read")]
 pub const READ: Pair = Pair {
     name: "fe_read",
     library: terminal::fe_read,

@@ -91,7 +91,6 @@ fn seed(count: &mut Count, seed: u64) {
         count.add(&word, &damaged, &format!("{} damaged", shape.1), found);
     }
 
-    #[cfg(feature = "read")]
     if let Some(index) = index {
         let damaged = damage::index(&mut random, &index);
         for (what, bytes) in [("index", index), ("damaged index", damaged)] {
