@@ -16,7 +16,7 @@ use reference::damage;
 use reference::limits::MAX_LINKS;
 use reference::random::{card, shuffle_pairs, Random, Shape};
 
-/// Each seed makes a card, a shuffled copy of it and two damaged ones.
+/// Each seed makes a card, a shuffled copy of it and two damaged ones, and reads its index and a damaged one.
 const SEEDS: u64 = 6_000;
 
 /// So many failures show the file's bytes; the others can be repeated.
