@@ -11,7 +11,7 @@ use Rattle.truss.specs.Group.{groups}
 use Rattle.truss.specs.Refusal.{passed, refuse}
 use Rattle.truss.specs.Record.{bodyLength}
 use Rattle.truss.specs.LinksFile.{accepted, readLinks, writeLinks, readBack}
-use Rattle.truss.specs.Index.{indexBytes}
+use Rattle.truss.specs.Index.{index, indexBytes}
 use Rattle.truss.specs.IndexFile.{readIndex}
 use Rattle.truss.specs.Question.{answer, ask-strength, ask-joined, ask-groups-at, ask-strongest, ask-all, ask-links, number, numbers}
 use Rattle.truss.specs.Listing.{rows, lister}
@@ -92,6 +92,8 @@ record RuleCases : Type 0 where
       ≡ record { strength = 5; parent = 1; links = 10; accounts = 5; lo = 0; hi = 1 }
       ∷ record { strength = 4; parent = 2; links = 13; accounts = 6; lo = 0; hi = 1 }
       ∷ record { strength = 3; parent = noGroup; links = 15; accounts = 7; lo = 0; hi = 1 } ∷ []
+  parents-written : index nested .groups
+      ≡ record { parent = 1; strength = 5; least = 0 } ∷ record { parent = 2; strength = 4; least = 0 } ∷ record { parent = noGroup; strength = 3; least = 0 } ∷ []
   -- the table of kinds
   unknown-kind-0 : bodyLength 0 ≡ none
   head-body : bodyLength 1 ≡ some 4
@@ -157,12 +159,13 @@ record RuleCases : Type 0 where
   no-such-link : answer nested (ask-links 64 5 6) ≡ refuse 11 0
 
 rule-cases : RuleCases
-unfolding kite twoApart nested graphB triangle pair file headOnly accounts graphOf forest groups rows bodyLength readLinks readBack answer
+unfolding kite twoApart nested graphB triangle pair file headOnly accounts graphOf forest groups index rows bodyLength readLinks readBack answer
 rule-cases = record {
   equal-weights = refl;
   B-forest = refl;
   equal-strengths = refl;
   smallest-parent = refl;
+  parents-written = refl;
   unknown-kind-0 = refl;
   head-body = refl;
   strong-link-body = refl;
