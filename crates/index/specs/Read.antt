@@ -16,7 +16,7 @@ use Rattle.truss.specs.Graph.{Link, Pair, Graph, link, linkOf, linkAt, graphOf}
 use Rattle.truss.specs.Refusal.{Refusal, Checked, passed, refused, refuse, andThen, mapPassed}
 use Rattle.truss.specs.Record.{kindHead, kindStrongLink, bodyLength, holdsBody, byteAt, fieldAt, headBytes, endBytes, whole}
 use Rattle.truss.specs.LinksFile.{Head, readHead, pairBytes, writeLinks, lowerFirst, pairsOf, readBack}
-use Rattle.truss.specs.Index.{encode, index, indexBytes}
+use Rattle.truss.specs.Index.{Index as IndexRows, encode, index, indexBytes}
 use Rattle.truss.specs.IndexFile.{IsIndexOf, readIndex}
 use Rattle.truss.specs.Call.{Reply, Written, done, notDone, write, checkRoom, read}
 use Rattle.laws.proofs.Members.{map-in, in-map, range-in, in-range, range-length, Sorted}
@@ -32,8 +32,10 @@ use Rattle.wire.specs.Writing.{Tells, written, written-start, upTo, upTo-rows, 
 use Rattle.linksfile.specs.SortedLinks.{Row, row-named}
 use Rattle.linksfile.specs.Records.{keyOf}
 use Rattle.index.specs.declared.Reply.{Reply as CReply}
+use Rattle.index.specs.declared.Opening.{Opening}
+use Rattle.index.specs.declared.Opening.the-variants.{NoIndex, Index}
 use Rattle.index.specs.Build.{Replies, replied, replyIn, reply-with, reply-same}
-use Rattle.indexfile.specs.Rows.{indexIn}
+use Rattle.indexfile.specs.Rows.{joinIn, groupIn, indexIn}
 use Rattle.index.specs.Solved.{SolveAsks, Solved}
 use Rattle.index.specs.Strong.{strongPair, strongKey, strongPlace, Strong, AllStrong, all-strong, index-head, first-is, second-is}
 
@@ -309,19 +311,58 @@ keys-failed K un = record { size = K .size; yes-is = λ q. absurd (let z : _≡_
 
 -- ---- the check, and the whole reading
 
-pub record CheckGives (b : List ℕ) (n m : ℕ) (r : Bool) : Type 0 where
-  pub yes-is : r ≡ true → AllStrong b n m × (b ≡ indexBytes (graphOf n (pairsIn b m)))
-  pub no-is : r ≡ false → readIndex b ≡ refuse 7 0
+-- the answer of a check, with the sizes found
+unfoldable pub openingOf : Bool → ℕ → ℕ → Opening
+openingOf true joins groups = Index joins groups
+openingOf false joins groups = NoIndex
 
-pub keys-fail-gives : {b : List ℕ} {n m : ℕ} → readHead b ≡ passed (record { n = n; m = m }) → ¬ (AllStrong b n m) → CheckGives b n m false
-keys-fail-gives {b} {n} {m} head un = record { yes-is = λ q. absurd (let z : _≡_ {A = ℕ} 0 1 = cc in omega arith); no-is = λ _. not-strong b n m head un }
+-- the bytes are an index: of the graph that their strong links name, with so many joins and groups
+pub record Opened (b : List ℕ) (n m joins groups : ℕ) : Type 0 where
+  pub head : readHead b ≡ passed (record { n = n; m = m })
+  pub strong : AllStrong b n m
+  pub bytes : b ≡ indexBytes (graphOf n (pairsIn b m))
+  pub joins-are : joins ≡ length (index (graphOf n (pairsIn b m)) .joins)
+  pub groups-are : groups ≡ length (index (graphOf n (pairsIn b m)) .groups)
 
-pub check-gives : {b : List ℕ} {n m joins groups : ℕ} {w : List ℕ} {r : Bool} → readHead b ≡ passed (record { n = n; m = m }) → AllStrong b n m
-    → Solved n m joins groups (pairsIn b m) w → Tells r (b ≡ encode (indexIn w n m joins groups)) → CheckGives b n m r
-unfolding indexBytes
-check-gives {b} {n} {m} head A S T =
-    let e = ap encode (S .index-is) in
-    record { yes-is = λ q. (A, T .yes-is q ∙ e); no-is = λ q. takes-not b n m head A (λ p. T .no-is q (p ∙ sym e)) }
+pub OpenSays : List ℕ → ℕ → ℕ → Opening → Type 0
+OpenSays b n m (Index joins groups) = Opened b n m joins groups
+OpenSays b n m NoIndex = readIndex b ≡ refuse 7 0
+
+-- what is said of the bytes; the work space has its length and is otherwise as it falls
+pub record OpenGives (b : List ℕ) (n m : ℕ) (w : List ℕ) (r : Opening) : Type 0 where
+  pub says : OpenSays b n m r
+  pub size : length w ≡ 16 * m
+
+pub keys-fail-gives : {b : List ℕ} {n m : ℕ} {w : List ℕ} → readHead b ≡ passed (record { n = n; m = m }) → ¬ (AllStrong b n m) → length w ≡ 16 * m → OpenGives b n m w NoIndex
+unfolding OpenSays
+keys-fail-gives {b} {n} {m} head un size = record { says = not-strong b n m head un; size = size }
+
+pub open-gives : {b : List ℕ} {n m joins groups : ℕ} {w : List ℕ} {t : Bool} {r : Opening} → readHead b ≡ passed (record { n = n; m = m }) → AllStrong b n m
+    → Solved n m joins groups (pairsIn b m) w → Tells t (b ≡ encode (indexIn w n m joins groups)) → r ≡ openingOf t joins groups → OpenGives b n m w r
+unfolding indexBytes openingOf OpenSays indexIn
+open-gives {b} {n} {m} {joins} {groups} {w} {t} {r} head A S T q = record { says = subst (OpenSays b n m) (sym q) (go t refl); size = S .writes .size }
+  where
+    e : encode (indexIn w n m joins groups) ≡ indexBytes (graphOf n (pairsIn b m))
+    e = ap encode (S .index-is)
+
+    go : (x : Bool) → t ≡ x → OpenSays b n m (openingOf x joins groups)
+    go true h = record {
+      head = head;
+      strong = A;
+      bytes = T .yes-is h ∙ e;
+      joins-are = sym (length-map (range 0 joins) (joinIn w m) ∙ range-length 0 joins) ∙ ap (λ (x : IndexRows). length (x .joins)) (S .index-is);
+      groups-are = sym (length-map (range 0 groups) (groupIn w m) ∙ range-length 0 groups) ∙ ap (λ (x : IndexRows). length (x .groups)) (S .index-is);
+    }
+    go false h = takes-not b n m head A (λ p. T .no-is h (p ∙ sym e))
+
+-- the answer, read
+pub opened-is : {b : List ℕ} {n m : ℕ} {w : List ℕ} {r : Opening} {joins groups : ℕ} → OpenGives b n m w r → r ≡ Index joins groups → Opened b n m joins groups
+unfolding OpenSays
+opened-is {b} {n} {m} O q = subst (OpenSays b n m) q (O .says)
+
+pub not-opened : {b : List ℕ} {n m : ℕ} {w : List ℕ} {r : Opening} → OpenGives b n m w r → r ≡ NoIndex → readIndex b ≡ refuse 7 0
+unfolding OpenSays
+not-opened {b} {n} {m} O q = subst (OpenSays b n m) q (O .says)
 
 module _ (b out : List ℕ) where
   pub read-refused : {r : CReply} → readIndex b ≡ refuse 7 0 → Replies r 7 0 → ReadGives b out r out

@@ -30,7 +30,7 @@ use Rattle.laws.proofs.Accepted.{Named as Accepted}
 use Rattle.laws.proofs.Agree.{index-fits}
 use Rattle.laws.proofs.InOrder.{graph-in-order}
 use Rattle.wire.specs.Writing.{upTo, upTo-rows, upTo-length}
-use Rattle.indexfile.specs.Comparing.{upTo-split}
+use Rattle.indexfile.specs.Comparing.{row-byte}
 
 -- the place of strong link i, and its key
 abbrev pub strongPlace : ℕ → ℕ
@@ -52,10 +52,6 @@ pub record Strong (b : List ℕ) (n i : ℕ) : Type 0 where
 pub record AllStrong (b : List ℕ) (n m : ℕ) : Type 0 where
   pub each : (i : ℕ) → i < m → Strong b n i
   pub rises : (i j : ℕ) → i < j → j < m → strongKey b i < strongKey b j
-
--- the byte at a place after a front
-at-place : (pre suf : List ℕ) (i j : ℕ) → i ≡ length pre + j → getD (pre ++ suf) i 0 ≡ getD suf j 0
-at-place pre suf i j q = ap (λ (x : ℕ). getD (pre ++ suf) x 0) q ∙ getD-append-add pre suf j 0
 
 -- links in order, by their accounts
 before-cases : (e f : Link) → linkBefore e f ≡ true → (e .lo < f .lo) ⊎ ((e .lo ≡ f .lo) × (e .hi < f .hi))
@@ -95,18 +91,17 @@ module _ (n : ℕ) (ps : List Pair) (accepted : Accepted n ps) where
   tail : List ℕ
   tail = concatMap joinBytes (index G .joins) ++ (concatMap groupBytes (index G .groups) ++ endBytes)
 
-  -- the bytes up to record i, and from it on
-  bytes-at : (i : ℕ) → i < m → (pre suf : List ℕ) × (length pre ≡ strongPlace i) × (indexBytes G ≡ pre ++ (f i ++ suf))
+  bytes-are : indexBytes G ≡ headBytes kindIndexHead (index G .n) (index G .m) ++ (upTo f m ++ tail)
   unfolding indexBytes encode f tail
-  bytes-at i l =
-      let r = upTo-split f 8 (λ j. refl) m i l in
-      let H = headBytes kindIndexHead (index G .n) (index G .m) in
-      let rows : concatMap linkBytes (index G .links) ≡ upTo f i ++ (f i ++ r .0) = ap (concatMap linkBytes) rows-are ∙ sym (upTo-rows linkBytes (rowAt (index G)) m) ∙ r .1 in (
-        H ++ upTo f i,
-        r .0 ++ tail,
-        length-append H (upTo f i) ∙ omega (arith, upTo-length f 8 (λ j. refl) i),
-        ap (λ (x : List ℕ). H ++ (x ++ tail)) rows ∙ simp append-assoc,
-      )
+  bytes-are =
+      ap (λ (x : List ℕ). headBytes kindIndexHead (index G .n) (index G .m) ++ (x ++ tail)) (ap (concatMap linkBytes) rows-are ∙ sym (upTo-rows linkBytes (rowAt (index G)) m))
+
+  long : 5 + m * 8 ≤ length (indexBytes G)
+  unfolding f
+  long =
+      let a = ap length bytes-are in
+      let b = length-append (headBytes kindIndexHead (index G .n) (index G .m)) (upTo f m ++ tail) in
+      omega (arith, a, b, length-append (upTo f m) tail, upTo-length f 8 (λ j. refl) m)
 
   row-fields : (i : ℕ) → i < m → (rowAt (index G) i .lo ≡ linkAt G i .lo) × (rowAt (index G) i .hi ≡ linkAt G i .hi)
   unfolding linkRow
@@ -119,9 +114,8 @@ module _ (n : ℕ) (ps : List Pair) (accepted : Accepted n ps) where
     at-row : (j : ℕ) → j < 8 → byteAt (indexBytes G) (strongPlace i + j) ≡ getD (f i) j 0
     unfolding f
     at-row j k =
-        let p = bytes-at i l in
-        ap (λ (x : List ℕ). getD x (strongPlace i + j) 0) (p .3) ∙ at-place (p .0) (f i ++ p .1) (strongPlace i + j) j (omega (arith, p .2))
-        ∙ List·getD-append (f i) (p .1) 0 j k
+        let e : strongPlace i + j ≡ 5 + i * 8 + j = omega arith in
+        ap₂ (λ (x : List ℕ) (y : ℕ). getD x y 0) bytes-are e ∙ row-byte f 8 (λ j. refl) (headBytes kindIndexHead (index G .n) (index G .m)) tail m i j l k
 
     small : (linkAt G i .lo < linkAt G i .hi) × (linkAt G i .hi < n)
     unfolding graphOf
@@ -144,11 +138,9 @@ module _ (n : ℕ) (ps : List Pair) (accepted : Accepted n ps) where
     pub strong-is : whole (indexBytes G) (strongPlace i) kindStrongLink ≡ true
     unfolding f bodyLength holdsBody
     strong-is =
-        let p = bytes-at i l in
         let e : strongPlace i ≡ strongPlace i + 0 = omega arith in
-        let long : length (indexBytes G) ≡ strongPlace i + length (f i ++ p .1) = ap length (p .3) ∙ length-append (p .0) (f i ++ p .1) ∙ omega (arith, p .2) in
         both (eq-eqb (byteAt (indexBytes G) (strongPlace i)) 2 (ap (byteAt (indexBytes G)) e ∙ at-row 0 (omega arith)))
-        (le-leb (strongPlace i + 1 + 7) (length (indexBytes G)) (omega (arith, long, length-append (f i) (p .1))))
+        (le-leb (strongPlace i + 1 + 7) (length (indexBytes G)) (omega (arith, long, l)))
 
   pub all-strong : AllStrong (indexBytes G) n m
   all-strong = record {

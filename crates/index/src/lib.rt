@@ -10,7 +10,7 @@ ghost use Rattle.truss.specs.Record.{endBytes, headBytes, kindHead};
 ghost use Rattle.wire.specs.Writing.{upTo, written};
 ghost use Rattle.index.specs.Build.{BuildGives, FinishGives, Replies, replied};
 ghost use Rattle.index.specs.Strong.{strongPair};
-ghost use Rattle.index.specs.Read.{CheckGives, KeysRead, NextKey, ReadGives, StrongFit, backBytes};
+ghost use Rattle.index.specs.Read.{OpenGives, openingOf, KeysRead, NextKey, ReadGives, StrongFit, backBytes};
 use columns::put;
 use groups::tree::Sizes;
 use groups::tree::tree;
@@ -39,7 +39,7 @@ pub struct Reply {
     pub third: u32,
 }
 
-fn answered(refusal: u32, value: u32) -> Reply
+pub fn answered(refusal: u32, value: u32) -> Reply
     ensures { λ r. ⌜ Replies r refusal value ⌝ }
 {
     Reply {
@@ -149,18 +149,34 @@ fn read_keys(s: &[u8], n: usize, m: usize, w: &mut [u32]) -> bool
     true
 }
 
+// Whether bytes are an index, and of how many joins and groups.
+pub enum Opening {
+    NoIndex,
+    Index { joins: usize, groups: usize },
+}
+
+fn found(is: bool, joins: usize, groups: usize) -> Opening
+    ensures { λ r. ⌜ r ≡ openingOf is joins groups ⌝ }
+{
+    if is {
+        return Opening::Index { joins, groups };
+    }
+    Opening::NoIndex
+}
+
 // Whether the bytes, whose head is good, are an index: the index of what their strong links name.
-fn check_in(s: &[u8], w: &mut [u32], n: usize, m: usize) -> bool
+pub fn open_in(s: &[u8], w: &mut [u32], n: usize, m: usize) -> Opening
     requires { ⌜ LoadAsks (now s) n m (now w) ⌝ }
-    ensures { λ r. ⌜ CheckGives (now (s .entry)) n m r ⌝ }
+    ensures { λ r. ⌜ OpenGives (now (s .entry)) n m (now (w .exit)) r ⌝ }
 {
     if !read_keys(s, n, m, w) {
-        return false;
+        return Opening::NoIndex;
     }
     let z = solve(w, m, n);
     let joins = z.joins;
     let groups = z.groups;
-    same_index(s, w, n, m, joins, groups)
+    let is = same_index(s, w, n, m, joins, groups);
+    found(is, joins, groups)
 }
 
 // The pairs of the strong links as plain links, at the front of what is lent.
@@ -200,15 +216,20 @@ fn read_in(index: &[u8], out: &mut [u8], w: &mut [u32], n: usize, m: usize) -> R
     requires { ⌜ LoadAsks (now index) n m (now w) ⌝ }
     ensures { λ r. ⌜ ReadGives (now (index .entry)) (now (out .entry)) r (now (out .exit)) ⌝ }
 {
-    if !check_in(index, w, n, m) {
-        return answered(7, 0);
+    match open_in(index, w, n, m) {
+        Opening::NoIndex => answered(7, 0),
+        Opening::Index {
+            joins: _,
+            groups: _,
+        } => {
+            let len = 6 + m * 5;
+            if out.len() < len {
+                return answered(12, 0);
+            }
+            write_back(out, index, n, m);
+            answered(0, len as u32)
+        }
     }
-    let len = 6 + m * 5;
-    if out.len() < len {
-        return answered(12, 0);
-    }
-    write_back(out, index, n, m);
-    answered(0, len as u32)
 }
 
 // An index back into its links file: the bytes written, or refusal 7 at place 0 if the bytes are no index, and then 12. Bytes after the file stay, and all

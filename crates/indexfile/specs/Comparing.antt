@@ -5,8 +5,8 @@ use mathlib.Core.List.{List, [], _∷_, _++_, append-assoc, append-nil}
 use Prim.Native.Nat.{ℕ, zero, suc, _+_, _*_, _-_, _≤_, _<_}
 use native.Mathlib.Nat.{suc-mul, mul-le-mul-right}
 use native.Mathlib.Omega.{arith}
-use lib.ListN.{length, take, drop}
-use lib.Seq.{take-at, drop-at, take-add, take-take}
+use lib.ListN.{length, getD, take, drop, length-append, List·getD-append}
+use lib.Seq.{getD-append-add, take-at, drop-at, take-add, take-take}
 use Rattle.laws.proofs.Numbers.{same-or-not}
 use Rattle.wire.specs.Writing.{upTo, upTo-more, upTo-length}
 
@@ -41,6 +41,15 @@ module _ (f : ℕ → List ℕ) (l : ℕ) (long : (i : ℕ) → length (f i) ≡
       go (inr q) ih =
           let r = ih (omega arith) in
           (r .0 ++ f m, ap (λ (x : List ℕ). x ++ f m) (r .1) ∙ append-assoc (upTo f i) (f i ++ r .0) (f m) ∙ ap (λ (x : List ℕ). upTo f i ++ x) (append-assoc (f i) (r .0) (f m)))
+
+  -- byte j of record i, where the records stand after a front
+  pub row-byte : (pre suf : List ℕ) (m i j : ℕ) → i < m → j < l → getD (pre ++ (upTo f m ++ suf)) (length pre + i * l + j) 0 ≡ getD (f i) j 0
+  row-byte pre suf m i j h k =
+      let r = upTo-split m i h in
+      let e : pre ++ (upTo f m ++ suf) ≡ (pre ++ upTo f i) ++ (f i ++ (r .0 ++ suf)) = ap (λ (x : List ℕ). pre ++ (x ++ suf)) (r .1) ∙ simp append-assoc in
+      let p : length pre + i * l + j ≡ length (pre ++ upTo f i) + j = omega (arith, length-append pre (upTo f i), upTo-length f l long i) in
+      ap₂ (λ (x : List ℕ) (y : ℕ). getD x y 0) e p ∙ getD-append-add (pre ++ upTo f i) (f i ++ (r .0 ++ suf)) j 0
+      ∙ List·getD-append (f i) (r .0 ++ suf) 0 j (omega (arith, k, long i))
 
   -- the bytes begin with the first i records
   pub record Matching (s : List ℕ) (i at : ℕ) : Type 0 where
