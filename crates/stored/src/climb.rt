@@ -1,0 +1,44 @@
+// The climb from a link's own group up through parents to the group at k.
+ghost use mathlib.Core.Path.{_≡_};
+ghost use Prim.Native.Nat.{ℕ, _<_, _≤_};
+ghost use Rattle.laws.proofs.Groups.{size};
+ghost use Rattle.laws.proofs.Stored.{groupCount};
+ghost use Rattle.truss.specs.Limits.{minLevel};
+ghost use Rattle.truss.specs.Group.{groupOf, groups};
+ghost use Rattle.stored.specs.Rows.{graphIn, GroupsAt};
+ghost use Rattle.stored.specs.Climb.{ClimbAsks, Climbed};
+use crate::rows::NONE;
+use crate::rows::group_parent;
+use crate::rows::group_strength;
+use crate::rows::link_group;
+use crate::rows::link_strength;
+
+// From group g, whose strength is at least k, up to the group at k. Numbers rise at each step.
+pub fn climb(s: &[u8], at: usize, count: usize, k: usize, g: usize) -> usize
+    requires { ⌜ ClimbAsks (now s) at count k g ⌝ }
+    ensures { λ r. ⌜ Climbed (graphIn (now (s .entry))) k g r ⌝ }
+{
+    let p = group_parent(s, at, g);
+    if p == NONE {
+        return g;
+    }
+    if group_strength(s, at, p) < k {
+        return g;
+    }
+    climb(s, at, count, k, p)
+}
+
+// The number of the group at k with link i, NONE if the link's strength is below k.
+pub fn group_at(s: &[u8], at: usize, count: usize, k: usize, i: usize) -> usize
+    requires { ⌜ GroupsAt (now s) at ⌝ }
+    requires { ⌜ groupCount (graphIn (now s)) ≡ count ⌝ }
+    requires { ⌜ minLevel ≤ k ⌝ }
+    requires { ⌜ i < size (graphIn (now s)) ⌝ }
+    ensures { λ r. ⌜ r ≡ groupOf (graphIn (now (s .entry))) (groups (graphIn (now (s .entry)))) k i ⌝ }
+{
+    if link_strength(s, i) < k {
+        return NONE;
+    }
+    let g = link_group(s, i);
+    climb(s, at, count, k, g)
+}
