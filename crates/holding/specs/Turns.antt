@@ -1,0 +1,501 @@
+-- The turns of the loops that rank accounts and mark groups. Assumes nothing.
+use mathlib.Core.Path.{_≡_, refl, sym, ap, _∙_, subst}
+use mathlib.Core.Logic.{_⊎_, inl, inr, _≢_}
+use mathlib.Core.Bool.{true, false}
+use mathlib.Core.List.{List}
+use mathlib.Core.List.{List·Memᴰ as In}
+use Prim.Native.Nat.{ℕ, zero, suc, _+_, _*_, _-_, _≤_, _<_}
+use native.Mathlib.Omega.{arith}
+use lib.ListN.{length, getD, set}
+use Rattle.truss.specs.Limits.{minLevel, noGroup}
+use Rattle.truss.specs.Record.{fieldAt}
+use Rattle.truss.specs.Graph.{Graph, linkAt, graphOf}
+use Rattle.truss.specs.Question.{accountsIn, holdsAll}
+use Rattle.laws.proofs.Numbers.{same-or-not}
+use Rattle.laws.proofs.Members.{getD-in, in-member}
+use Rattle.laws.proofs.Groups.{size, strengthAt}
+use Rattle.laws.proofs.Stored.{groupCount, stored}
+use Rattle.laws.proofs.Tree.{parent-rises}
+use Rattle.columns.specs.Columns.{cell, store, COLUMNS}
+use Rattle.columns.specs.Laws.{Upd, Same, upd-store, same-store, length-store, kept-column}
+use Rattle.columns.specs.Wiping.{Wiping}
+use Rattle.stored.specs.Rows.{graphIn, IsIndex, GroupsAt, Shape, ownGroup, parentOf, proper, fits-groups, few, few-links, few-accounts, parent-cases, own-cases}
+use Rattle.holding.specs.Marks.{Marks, marks-none, marks-as, marks-set, marks-clear}
+use Rattle.holding.specs.Ranks.{rankIn, Before, NoRanks, Ranks, ranks-again, ranks-new, before-in, in-before}
+use Rattle.holding.specs.Held.{Own, HeldBy, Lifted, lifted-held, held-lifted, all-held, held-all}
+
+-- ---- ranks
+
+-- account v is named when d ranks are given: it gets the next, if it has none
+pub record RankedOne (v d r : ℕ) (ranks ranks′ : List ℕ) : Type 0 where
+  pub again : rankIn ranks v ≢ 0 → (r ≡ d) × (ranks′ ≡ ranks)
+  pub new : rankIn ranks v ≡ 0 → (r ≡ d + 1) × (ranks′ ≡ set ranks v (d + 1))
+
+pub ranked-again : {v d : ℕ} {ranks : List ℕ} → rankIn ranks v ≢ 0 → RankedOne v d d ranks ranks
+ranked-again h = record { again = λ _. (refl, refl); new = λ z. absurd (h z) }
+
+pub ranked-new : {v d r : ℕ} {ranks : List ℕ} → rankIn ranks v ≡ 0 → r ≡ d + 1 → RankedOne v d r ranks (set ranks v (d + 1))
+ranked-new h q = record { again = λ n. absurd (n h); new = λ _. (q, refl) }
+
+-- k accounts are named, two bytes each, all below n
+pub record Names (n k : ℕ) (named : List ℕ) : Type 0 where
+  pub even : length named ≡ 2 * k
+  pub few-names : k ≤ 16
+  pub below : (v : ℕ) → In v (accountsIn named) → v < n
+
+pub name-below : {n k : ℕ} {named : List ℕ} → Names n k named → (j : ℕ) → j < k → fieldAt named (2 * j) < n
+name-below {n} {k} {named} N j l = N .below (fieldAt named (2 * j)) (before-in named k (N .even) (j, l, refl))
+
+pub record RankState (n j d : ℕ) (named ranks : List ℕ) : Type 0 where
+  pub ranks-are : Ranks n d ranks (Before named j)
+  pub few-ranks : d ≤ j
+
+pub rank-more : {n k j d v r : ℕ} {named ranks ranks′ : List ℕ} → Names n k named → j < k → RankState n j d named ranks → v ≡ fieldAt named (2 * j) → RankedOne v d r ranks ranks′ → RankState n (j + 1) r named ranks′
+rank-more {n} {k} {j} {d} {v} {r} {named} {ranks} {ranks′} N l S q O = go (same-or-not (rankIn ranks v) 0)
+  where
+    lv : v < n
+    lv = omega (arith, q, name-below N j l)
+
+    go : (rankIn ranks v ≡ 0) ⊎ (rankIn ranks v ≢ 0) → RankState n (j + 1) r named ranks′
+    go (inl z) = let o = O .new z in rw (o .0, o .1) (record { ranks-are = ranks-new named (S .ranks-are) q lv z; few-ranks = omega (arith, S .few-ranks) })
+    go (inr nz) = let o = O .again nz in rw (o .0, o .1) (record { ranks-are = ranks-again named (S .ranks-are) q lv nz; few-ranks = omega (arith, S .few-ranks) })
+
+-- ---- only one column changes
+
+pub record Only (m c : ℕ) (w w′ : List ℕ) : Type 0 where
+  pub length-is : length w′ ≡ length w
+  pub others : (x y : ℕ) → x ≢ c → y < m → cell w′ m x y ≡ cell w m x y
+
+pub only-none : (m c : ℕ) (w : List ℕ) → Only m c w w
+only-none m c w = record { length-is = refl; others = λ x y n l. refl }
+
+pub only-then : {m c : ℕ} {w w₁ w₂ : List ℕ} → Only m c w w₁ → Only m c w₁ w₂ → Only m c w w₂
+only-then p q = record { length-is = q .length-is ∙ p .length-is; others = λ x y n l. q .others x y n l ∙ p .others x y n l }
+
+pub only-store : (w : List ℕ) (m c i x : ℕ) → i < m → Only m c w (store w m c i x)
+only-store w m c i x l = record { length-is = length-store w m c i x; others = λ y j n k. kept-column w m c y i j x (λ e. n (sym e)) l k }
+
+-- ---- no marks
+
+pub record Clear (m d count : ℕ) (w : List ℕ) : Type 0 where
+  pub size : length w ≡ 16 * m
+  pub zero-is : (c g : ℕ) → c < d → g < count → cell w m c g ≡ 0
+
+pub clear-none : {m count : ℕ} {w : List ℕ} → length w ≡ 16 * m → Clear m 0 count w
+clear-none q = record { size = q; zero-is = λ c g l. absurd (omega arith) }
+
+pub clear-more : {m d count : ℕ} {w w′ : List ℕ} → count ≤ m → Clear m d count w → Wiping m d count w w′ → Clear m (d + 1) count w′
+clear-more {m} {d} {count} {w} {w′} few-c C W = record { size = W .length-is ∙ C .size; zero-is = λ c g l k. go c g l k (same-or-not c d) }
+  where
+    go : (c g : ℕ) → c < d + 1 → g < count → (c ≡ d) ⊎ (c ≢ d) → cell w′ m c g ≡ 0
+    go c g l k (inl e) = rw e (W .zero g k)
+    go c g l k (inr n) = W .others c g n (omega arith) ∙ C .zero-is c g (omega arith) k
+
+-- ---- the groups that links name
+
+-- entry g of the column of rank r, if there is one, is marked
+pub record Marked (m g r : ℕ) (w w′ : List ℕ) : Type 0 where
+  pub length-is : length w′ ≡ length w
+  pub here : (c : ℕ) → r ≡ c + 1 → Upd m (cell w m c) (cell w′ m c) g 1
+  pub else : (c : ℕ) → r ≢ c + 1 → Same m (cell w m c) (cell w′ m c)
+
+pub marked-none : {m g r : ℕ} {w : List ℕ} → r ≡ 0 → Marked m g r w w
+marked-none z = record { length-is = refl; here = λ c q. absurd (omega arith); else = λ c n y l. refl }
+
+pub marked-store : (w : List ℕ) (m g r : ℕ) → r ≢ 0 → r ≤ 16 → g < m → length w ≡ 16 * m → Marked m g r w (store w m (r - 1) g 1)
+marked-store w m g r nz few-r l size = record {
+  length-is = length-store w m (r - 1) g 1;
+  here = λ c q. let e : r - 1 ≡ c = omega arith in rw e (upd-store w m c g 1 (omega arith) l size);
+  else = λ c n. same-store w m (r - 1) c g 1 (λ e. n (omega (arith, e, nz))) l;
+}
+
+marked-marks : {m count g r : ℕ} (c : ℕ) {w w′ : List ℕ} {P : ℕ → Type 0} → count ≤ m → Marks (cell w m c) count P → Marked m g r w w′
+    → Marks (cell w′ m c) count (λ (h : ℕ). P h ⊎ ((h ≡ g) × (r ≡ c + 1)))
+marked-marks {m} {count} {g} {r} c {w} {w′} {P} few-c M K = go (same-or-not r (c + 1))
+  where
+    go : (r ≡ c + 1) ⊎ (r ≢ c + 1) → Marks (cell w′ m c) count (λ (h : ℕ). P h ⊎ ((h ≡ g) × (r ≡ c + 1)))
+    go (inl e) = marks-set few-c M (K .here c e) (λ z. omega (arith, z)) (inr (refl, e)) (λ h p. inl p) (λ h n q. back h n q)
+      where
+        back : (h : ℕ) → h ≢ g → P h ⊎ ((h ≡ g) × (r ≡ c + 1)) → P h
+        back h n (inl p) = p
+        back h n (inr (s, t)) = absurd (n s)
+    go (inr n) = marks-as M (λ h l. K .else c n h (omega arith)) (λ h l p. inl p) (λ h l q. back h q)
+      where
+        back : (h : ℕ) → P h ⊎ ((h ≡ g) × (r ≡ c + 1)) → P h
+        back h (inl p) = p
+        back h (inr (s, t)) = absurd (n t)
+
+-- what marking asks of index, ranks and work space
+pub record MarkGiven (b : List ℕ) (m count d : ℕ) (ranks : List ℕ) : Type 0 where
+  pub is-index : IsIndex b
+  pub links : size (graphIn b) ≡ m
+  pub groups : groupCount (graphIn b) ≡ count
+  pub columns : d ≤ 16
+  pub room : graphIn b .n ≤ length ranks
+  pub most : (v : ℕ) → v < graphIn b .n → rankIn ranks v ≤ d
+
+pub few-in : {b : List ℕ} {m count d : ℕ} {ranks : List ℕ} → MarkGiven b m count d ranks → count ≤ m
+few-in A = omega (arith, few (A .is-index), A .links, A .groups)
+
+pub few-all : {b : List ℕ} {m count d : ℕ} {ranks : List ℕ} → MarkGiven b m count d ranks → m ≤ 2048
+few-all A = omega (arith, few-links (A .is-index), A .links)
+
+pub ends-below : {b : List ℕ} → IsIndex b → (i : ℕ) → i < size (graphIn b) → (linkAt (graphIn b) i .lo < graphIn b .n) × (linkAt (graphIn b) i .hi < graphIn b .n)
+ends-below {b} I i l =
+    let m = in-member (graphIn b .links) (getD-in (Rattle.truss.specs.Graph.link 0 0) (graphIn b .links) i l) in
+    let lo = proper I .ordered (linkAt (graphIn b) i) m in
+    let hi = proper I .below (linkAt (graphIn b) i) m in
+    (omega (arith, lo, hi), hi)
+
+-- the first i links have marked their groups
+pub record OwnMarks (b : List ℕ) (m count d : ℕ) (ranks : List ℕ) (i : ℕ) (w : List ℕ) : Type 0 where
+  pub size-is : length w ≡ 16 * m
+  pub marks : (c : ℕ) → c < d → Marks (cell w m c) count (Own (graphIn b) ranks c i)
+
+pub own-none : {b : List ℕ} {m count d : ℕ} {ranks w : List ℕ} → Clear m d count w → OwnMarks b m count d ranks 0 w
+own-none C = record { size-is = C .size; marks = λ c l. marks-none (λ g h. C .zero-is c g l h) (λ g (j, lj, o, r). omega (arith, lj)) }
+
+module _ {b : List ℕ} {m count d : ℕ} {ranks : List ℕ} (A : MarkGiven b m count d ranks) {i : ℕ} {w : List ℕ} (O : OwnMarks b m count d ranks i w) (l : i < m) where
+  li : i < size (graphIn b)
+  li = omega (arith, A .links)
+
+  own-first : (c g : ℕ) → Own (graphIn b) ranks c i g → Own (graphIn b) ranks c (i + 1) g
+  own-first c g (j, lj, o, r) = (j, omega (arith, lj), o, r)
+
+  -- a link without a group
+  pub own-skip : {g : ℕ} → g ≡ ownGroup (graphIn b) i → g ≡ noGroup → OwnMarks b m count d ranks (i + 1) w
+  own-skip {g} q e = record { size-is = O .size-is; marks = λ c h. marks-as (O .marks c h) (λ x k. refl) (λ x k p. own-first c x p) (λ x k p. back c x k p) }
+    where
+      back : (c x : ℕ) → x < count → Own (graphIn b) ranks c (i + 1) x → Own (graphIn b) ranks c i x
+      back c x k (j, lj, o, r) = go (same-or-not j i)
+        where
+          go : (j ≡ i) ⊎ (j ≢ i) → Own (graphIn b) ranks c i x
+          go (inl s) =
+              let n : x ≡ noGroup = sym o ∙ ap (ownGroup (graphIn b)) s ∙ sym q ∙ e in
+              absurd (omega (arith, n, k, few-in A, few-all A))
+          go (inr s) = (j, omega (arith, lj, s), o, r)
+
+  pub own-in : {g : ℕ} → g ≡ ownGroup (graphIn b) i → g ≢ noGroup → g < count
+  own-in {g} q n = go (own-cases (A .is-index) i li)
+    where
+      go : ((ownGroup (graphIn b) i < groupCount (graphIn b)) × (minLevel ≤ strengthAt (graphIn b) i)) ⊎ ((ownGroup (graphIn b) i ≡ noGroup) × (strengthAt (graphIn b) i < minLevel)) → g < count
+      go (inl (x, y)) = omega (arith, x, q, A .groups)
+      go (inr (x, y)) = absurd (n (q ∙ x))
+
+  -- a link with one: its ends mark it
+  pub own-more : {g lo hi rl rh : ℕ} {w₁ w₂ : List ℕ} → g ≡ ownGroup (graphIn b) i → g ≢ noGroup → lo ≡ linkAt (graphIn b) i .lo → hi ≡ linkAt (graphIn b) i .hi
+      → rl ≡ rankIn ranks lo → rh ≡ rankIn ranks hi → Marked m g rl w w₁ → Marked m g rh w₁ w₂ → OwnMarks b m count d ranks (i + 1) w₂
+  own-more {g} {lo} {hi} {rl} {rh} {w₁} {w₂} q n ql qh el eh K₁ K₂ = record {
+    size-is = K₂ .length-is ∙ K₁ .length-is ∙ O .size-is;
+    marks = λ c h. marks-as (marked-marks c (few-in A) (marked-marks c (few-in A) (O .marks c h) K₁) K₂) (λ x k. refl) (λ x k p. to c x p) (λ x k p. back c x p);
+  }
+    where
+      to : (c x : ℕ) → (Own (graphIn b) ranks c i x ⊎ ((x ≡ g) × (rl ≡ c + 1))) ⊎ ((x ≡ g) × (rh ≡ c + 1)) → Own (graphIn b) ranks c (i + 1) x
+      to c x (inl (inl p)) = own-first c x p
+      to c x (inl (inr (s, t))) = (i, omega arith, sym q ∙ sym s, inl (ap (rankIn ranks) (sym ql) ∙ sym el ∙ t))
+      to c x (inr (s, t)) = (i, omega arith, sym q ∙ sym s, inr (ap (rankIn ranks) (sym qh) ∙ sym eh ∙ t))
+
+      back : (c x : ℕ) → Own (graphIn b) ranks c (i + 1) x → (Own (graphIn b) ranks c i x ⊎ ((x ≡ g) × (rl ≡ c + 1))) ⊎ ((x ≡ g) × (rh ≡ c + 1))
+      back c x (j, lj, o, r) = go (same-or-not j i)
+        where
+          at-i : j ≡ i → (rankIn ranks (linkAt (graphIn b) j .lo) ≡ c + 1) ⊎ (rankIn ranks (linkAt (graphIn b) j .hi) ≡ c + 1)
+              → (Own (graphIn b) ranks c i x ⊎ ((x ≡ g) × (rl ≡ c + 1))) ⊎ ((x ≡ g) × (rh ≡ c + 1))
+          at-i s (inl t) = inl (inr (sym o ∙ ap (ownGroup (graphIn b)) s ∙ sym q, el ∙ ap (rankIn ranks) (ql ∙ ap (λ (y : ℕ). linkAt (graphIn b) y .lo) (sym s)) ∙ t))
+          at-i s (inr t) = inr (sym o ∙ ap (ownGroup (graphIn b)) s ∙ sym q, eh ∙ ap (rankIn ranks) (qh ∙ ap (λ (y : ℕ). linkAt (graphIn b) y .hi) (sym s)) ∙ t)
+
+          go : (j ≡ i) ⊎ (j ≢ i) → (Own (graphIn b) ranks c i x ⊎ ((x ≡ g) × (rl ≡ c + 1))) ⊎ ((x ≡ g) × (rh ≡ c + 1))
+          go (inl s) = at-i s r
+          go (inr s) = inl (inl (j, omega (arith, lj, s), o, r))
+
+-- ---- up the tree
+
+pub record LiftGiven (b : List ℕ) (at m count : ℕ) : Type 0 where
+  pub groups-at : GroupsAt b at
+  pub links : size (graphIn b) ≡ m
+  pub groups : groupCount (graphIn b) ≡ count
+
+pub lift-few : {b : List ℕ} {at m count : ℕ} → LiftGiven b at m count → count ≤ m
+lift-few A = omega (arith, few (A .groups-at .is-index), A .links, A .groups)
+
+pub lift-all-few : {b : List ℕ} {at m count : ℕ} → LiftGiven b at m count → m ≤ 2048
+lift-all-few A = omega (arith, few-links (A .groups-at .is-index), A .links)
+
+-- one turn: the parent of a marked group is marked
+pub record LiftOne (b : List ℕ) (m c g : ℕ) (w w′ : List ℕ) : Type 0 where
+  pub unmarked : cell w m c g ≡ 0 → w′ ≡ w
+  pub top : parentOf (graphIn b) g ≡ noGroup → w′ ≡ w
+  pub marked : cell w m c g ≢ 0 → parentOf (graphIn b) g ≢ noGroup → w′ ≡ store w m c (parentOf (graphIn b) g) 1
+
+pub lift-parent : {b : List ℕ} {at m count g p : ℕ} → LiftGiven b at m count → g < count → p ≡ parentOf (graphIn b) g → p ≢ noGroup → p < count
+lift-parent {b} {at} {m} {count} {g} {p} A l q n = go (parent-cases (A .groups-at .is-index) g (omega (arith, l, A .groups)))
+  where
+    go : (parentOf (graphIn b) g < groupCount (graphIn b)) ⊎ (parentOf (graphIn b) g ≡ noGroup) → p < count
+    go (inl x) = omega (arith, x, q, A .groups)
+    go (inr e) = absurd (n (q ∙ e))
+
+pub lift-unmarked : {b : List ℕ} {m c g x : ℕ} {w : List ℕ} → x ≡ cell w m c g → x ≡ 0 → LiftOne b m c g w w
+lift-unmarked q z = record { unmarked = λ _. refl; top = λ _. refl; marked = λ n _. absurd (n (sym q ∙ z)) }
+
+pub lift-top : {b : List ℕ} {m c g p : ℕ} {w : List ℕ} → p ≡ parentOf (graphIn b) g → p ≡ noGroup → LiftOne b m c g w w
+lift-top q z = record { unmarked = λ _. refl; top = λ _. refl; marked = λ _ n. absurd (n (sym q ∙ z)) }
+
+pub lift-marked : {b : List ℕ} {m c g x p : ℕ} {w w′ : List ℕ} → x ≡ cell w m c g → x ≢ 0 → p ≡ parentOf (graphIn b) g → p ≢ noGroup → w′ ≡ store w m c p 1 → LiftOne b m c g w w′
+lift-marked {b} {m} {c} {g} {x} {p} {w} q nx e np u = record { unmarked = λ z. absurd (nx (q ∙ z)); top = λ z. absurd (np (e ∙ z)); marked = λ _ _. u ∙ ap (λ (y : ℕ). store w m c y 1) e }
+
+-- column c, whatever the ranks: marked at first are the groups that links name, now also the parents of the first g that hold the account
+pub record LiftState (b : List ℕ) (m count c g : ℕ) (w w′ : List ℕ) : Type 0 where
+  pub only : Only m c w w′
+  pub marks : (ranks : List ℕ) → Marks (cell w m c) count (Own (graphIn b) ranks c m) → Marks (cell w′ m c) count (Lifted (graphIn b) ranks c g)
+
+pub lift-none : {b : List ℕ} {at m count c : ℕ} {w : List ℕ} → LiftGiven b at m count → LiftState b m count c 0 w w
+lift-none {b} {at} {m} {count} {c} {w} A = record {
+  only = only-none m c w;
+  marks = λ ranks M. marks-as M (λ x k. refl) (λ x k p. inl (subst (λ (y : ℕ). Own (graphIn b) ranks c y x) (sym (A .links)) p)) (λ x k p. back ranks x p);
+}
+  where
+    back : (ranks : List ℕ) (x : ℕ) → Lifted (graphIn b) ranks c 0 x → Own (graphIn b) ranks c m x
+    back ranks x (inl p) = subst (λ (y : ℕ). Own (graphIn b) ranks c y x) (A .links) p
+    back ranks x (inr (y, ly, q, r)) = absurd (omega (arith, ly))
+
+module _ {b : List ℕ} {at m count : ℕ} (A : LiftGiven b at m count) (ranks : List ℕ) (c g : ℕ) (w : List ℕ) (M : Marks (cell w m c) count (Lifted (graphIn b) ranks c g)) (l : g < count) where
+  I : IsIndex b
+  I = A .groups-at .is-index
+
+  lg : g < groupCount (graphIn b)
+  lg = omega (arith, A .groups)
+
+  -- what the mark at g says
+  is-held : cell w m c g ≢ 0 → HeldBy (graphIn b) ranks c g
+  is-held nz = lifted-held I ranks c g g lg (omega (arith, lg)) (ends-below I) (M .yes g l nz)
+
+  not-held : cell w m c g ≡ 0 → ¬ (HeldBy (graphIn b) ranks c g)
+  not-held z h = M .no g l z (go (held-lifted I ranks c g lg h))
+    where
+      go : Lifted (graphIn b) ranks c (groupCount (graphIn b)) g → Lifted (graphIn b) ranks c g g
+      go (inl p) = inl p
+      go (inr (x, lx, q, r)) = inr (x, omega (arith, q, parent-rises (graphIn b) (proper I) (fits-groups I) x lx (omega (arith, q, lg))), q, r)
+
+  first : {x : ℕ} → Lifted (graphIn b) ranks c g x → Lifted (graphIn b) ranks c (g + 1) x
+  first (inl p) = inl p
+  first (inr (y, ly, q, r)) = inr (y, omega (arith, ly), q, r)
+
+  -- nothing new at x
+  back-from : {x : ℕ} → (parentOf (graphIn b) g ≡ x → HeldBy (graphIn b) ranks c g → ⊥) → Lifted (graphIn b) ranks c (g + 1) x → Lifted (graphIn b) ranks c g x
+  back-from n (inl p) = inl p
+  back-from {x} n (inr (y, ly, q, r)) = go (same-or-not y g)
+    where
+      go : (y ≡ g) ⊎ (y ≢ g) → Lifted (graphIn b) ranks c g x
+      go (inl s) = absurd (n (ap (parentOf (graphIn b)) (sym s) ∙ q) (subst (HeldBy (graphIn b) ranks c) s r))
+      go (inr s) = inr (y, omega (arith, ly, s), q, r)
+
+  lifted-more : {w′ : List ℕ} → c < 16 → length w ≡ 16 * m → LiftOne b m c g w w′ → Marks (cell w′ m c) count (Lifted (graphIn b) ranks c (g + 1))
+  lifted-more {w′} lc sz O = go (same-or-not (cell w m c g) 0) (same-or-not (parentOf (graphIn b) g) noGroup)
+    where
+      go : (cell w m c g ≡ 0) ⊎ (cell w m c g ≢ 0) → (parentOf (graphIn b) g ≡ noGroup) ⊎ (parentOf (graphIn b) g ≢ noGroup) → Marks (cell w′ m c) count (Lifted (graphIn b) ranks c (g + 1))
+      go (inl z) y = rw (O .unmarked z) (marks-as M (λ x k. refl) (λ x k p. first p) (λ x k p. back-from (λ e h. not-held z h) p))
+      go (inr nz) (inl t) = rw (O .top t) (marks-as M (λ x k. refl) (λ x k p. first p) (λ x k p. back-from (λ s h. omega (arith, s, t, k, lift-few A, lift-all-few A)) p))
+      go (inr nz) (inr nt) =
+          let lp : parentOf (graphIn b) g < m = omega (arith, lift-parent A l refl nt, lift-few A) in
+          rw (O .marked nz nt)
+          (marks-set (lift-few A) M (upd-store w m c (parentOf (graphIn b) g) 1 lc lp sz) (λ z. omega (arith, z)) (inr (g, omega arith, refl, is-held nz)) (λ y r. first r)
+          (λ y ny r. back-from (λ s h. ny (sym s)) r))
+
+only-lift : {b : List ℕ} {at m count c g : ℕ} {w w′ : List ℕ} → LiftGiven b at m count → g < count → LiftOne b m c g w w′ → Only m c w w′
+only-lift {b} {at} {m} {count} {c} {g} {w} {w′} A l O = go (same-or-not (cell w m c g) 0) (same-or-not (parentOf (graphIn b) g) noGroup)
+  where
+    go : (cell w m c g ≡ 0) ⊎ (cell w m c g ≢ 0) → (parentOf (graphIn b) g ≡ noGroup) ⊎ (parentOf (graphIn b) g ≢ noGroup) → Only m c w w′
+    go (inl z) y = rw (O .unmarked z) (only-none m c w)
+    go (inr nz) (inl t) = rw (O .top t) (only-none m c w)
+    go (inr nz) (inr nt) = rw (O .marked nz nt) (only-store w m c (parentOf (graphIn b) g) 1 (omega (arith, lift-parent A l refl nt, lift-few A)))
+
+pub lift-more : {b : List ℕ} {at m count c g : ℕ} {w₀ w w′ : List ℕ} → LiftGiven b at m count → g < count → c < 16 → length w₀ ≡ 16 * m → LiftState b m count c g w₀ w → LiftOne b m c g w w′ → LiftState b m count c (g + 1) w₀ w′
+lift-more {b} {at} {m} {count} {c} {g} {w₀} {w} {w′} A l lc sz S O = record {
+  only = only-then (S .only) (only-lift A l O);
+  marks = λ ranks M. lifted-more A ranks c g w (S .marks ranks M) l lc (S .only .length-is ∙ sz) O;
+}
+
+-- column c marks the groups that hold the account of its rank
+pub record LiftGives (b : List ℕ) (m count c : ℕ) (w w′ : List ℕ) : Type 0 where
+  pub only : Only m c w w′
+  pub marks : (ranks : List ℕ) → Marks (cell w m c) count (Own (graphIn b) ranks c m) → Marks (cell w′ m c) count (HeldBy (graphIn b) ranks c)
+
+pub lift-done : {b : List ℕ} {at m count c g : ℕ} {w w′ : List ℕ} → LiftGiven b at m count → LiftState b m count c g w w′ → count ≤ g → g ≤ count → LiftGives b m count c w w′
+lift-done {b} {at} {m} {count} {c} {g} {w} {w′} A S l k = record {
+  only = S .only;
+  marks = λ ranks M. marks-as (S .marks ranks M) (λ x h. refl)
+      (λ x h p. lifted-held I ranks c g x (omega (arith, h, A .groups)) (omega (arith, k, A .groups)) (ends-below I) p)
+      (λ x h p. let e : groupCount (graphIn b) ≡ g = omega (arith, l, k, A .groups) in subst (λ (y : ℕ). Lifted (graphIn b) ranks c y x) e (held-lifted I ranks c x (omega (arith, h, A .groups)) p));
+}
+  where
+    I : IsIndex b
+    I = A .groups-at .is-index
+
+-- the columns below c are lifted, the others as they were
+pub record LiftAll (b : List ℕ) (m count c : ℕ) (w w′ : List ℕ) : Type 0 where
+  pub length-is : length w′ ≡ length w
+  pub held : (ranks : List ℕ) (x : ℕ) → x < c → Marks (cell w m x) count (Own (graphIn b) ranks x m) → Marks (cell w′ m x) count (HeldBy (graphIn b) ranks x)
+  pub rest : (x g : ℕ) → c ≤ x → g < m → cell w′ m x g ≡ cell w m x g
+
+pub lift-all-none : {b : List ℕ} {m count : ℕ} {w : List ℕ} → LiftAll b m count 0 w w
+lift-all-none = record { length-is = refl; held = λ ranks x l. absurd (omega arith); rest = λ x g l k. refl }
+
+pub lift-all-more : {b : List ℕ} {m count c : ℕ} {w₀ w w′ : List ℕ} → count ≤ m → LiftAll b m count c w₀ w → LiftGives b m count c w w′ → LiftAll b m count (c + 1) w₀ w′
+lift-all-more {b} {m} {count} {c} {w₀} {w} {w′} few-c S L = record {
+  length-is = L .only .length-is ∙ S .length-is;
+  held = λ ranks x l M. held ranks x l M (same-or-not x c);
+  rest = λ x g l k. L .only .others x g (omega arith) k ∙ S .rest x g (omega arith) k;
+}
+  where
+    held : (ranks : List ℕ) (x : ℕ) → x < c + 1 → Marks (cell w₀ m x) count (Own (graphIn b) ranks x m) → (x ≡ c) ⊎ (x ≢ c) → Marks (cell w′ m x) count (HeldBy (graphIn b) ranks x)
+    held ranks x l M (inl e) = rw e (L .marks ranks (marks-as (rw e at M) (λ y h. S .rest c y (omega arith) (omega arith)) (λ y h p. p) (λ y h p. p)))
+    held ranks x l M (inr n) = marks-as (S .held ranks x (omega arith) M) (λ y h. L .only .others x y n (omega arith)) (λ y h p. p) (λ y h p. p)
+
+-- ---- all of them
+
+-- column 0 keeps the marks that column c has too, for the first e groups
+pub record Meets (m c e : ℕ) (w w′ : List ℕ) : Type 0 where
+  pub only : Only m 0 w w′
+  pub gone : (g : ℕ) → g < e → cell w m c g ≡ 0 → cell w′ m 0 g ≡ 0
+  pub kept : (g : ℕ) → g < m → cell w m c g ≢ 0 → cell w′ m 0 g ≡ cell w m 0 g
+  pub rest : (g : ℕ) → e ≤ g → g < m → cell w′ m 0 g ≡ cell w m 0 g
+
+pub meets-none : (m c : ℕ) (w : List ℕ) → Meets m c 0 w w
+meets-none m c w = record { only = only-none m 0 w; gone = λ g l. absurd (omega arith); kept = λ g l n. refl; rest = λ g l k. refl }
+
+-- one turn: the mark at g goes if column c has none
+pub record MeetOne (m c g : ℕ) (w w′ : List ℕ) : Type 0 where
+  pub gone : cell w m c g ≡ 0 → w′ ≡ store w m 0 g 0
+  pub kept : cell w m c g ≢ 0 → w′ ≡ w
+
+pub meets-more : {m c e : ℕ} {w₀ w w′ : List ℕ} → c ≢ 0 → e < m → length w₀ ≡ 16 * m → Meets m c e w₀ w → MeetOne m c e w w′ → Meets m c (e + 1) w₀ w′
+meets-more {m} {c} {e} {w₀} {w} {w′} nc l sz M O = go (same-or-not (cell w m c e) 0)
+  where
+    same-c : (g : ℕ) → g < m → cell w m c g ≡ cell w₀ m c g
+    same-c g k = M .only .others c g nc k
+
+    go : (cell w m c e ≡ 0) ⊎ (cell w m c e ≢ 0) → Meets m c (e + 1) w₀ w′
+    go (inl z) = rw (O .gone z) (record {
+      only = only-then (M .only) (only-store w m 0 e 0 l);
+      gone = λ g k h. gone g k h (same-or-not g e);
+      kept = λ g k h. U .else g k (λ s. h (sym (same-c g k) ∙ ap (cell w m c) s ∙ z)) ∙ M .kept g k h;
+      rest = λ g k h. U .else g h (omega arith) ∙ M .rest g (omega arith) h;
+    })
+      where
+        U : Upd m (cell w m 0) (cell (store w m 0 e 0) m 0) e 0
+        U = upd-store w m 0 e 0 (omega arith) l (M .only .length-is ∙ sz)
+
+        gone : (g : ℕ) → g < e + 1 → cell w₀ m c g ≡ 0 → (g ≡ e) ⊎ (g ≢ e) → cell (store w m 0 e 0) m 0 g ≡ 0
+        gone g k h (inl s) = ap (cell (store w m 0 e 0) m 0) s ∙ U .here
+        gone g k h (inr s) = U .else g (omega arith) s ∙ M .gone g (omega arith) h
+    go (inr n) = rw (O .kept n) (record {
+      only = M .only;
+      gone = λ g k h. gone g k h (same-or-not g e);
+      kept = M .kept;
+      rest = λ g k h. M .rest g (omega arith) h;
+    })
+      where
+        gone : (g : ℕ) → g < e + 1 → cell w₀ m c g ≡ 0 → (g ≡ e) ⊎ (g ≢ e) → cell w m 0 g ≡ 0
+        gone g k h (inl s) = absurd (n (same-c e l ∙ ap (cell w₀ m c) (sym s) ∙ h))
+        gone g k h (inr s) = M .gone g (omega arith) h
+
+-- column 0 keeps the marks that all of the first c columns have
+pub record MeetAll (m count c : ℕ) (w w′ : List ℕ) : Type 0 where
+  pub only : Only m 0 w w′
+  pub gone : (x g : ℕ) → x < c → g < count → cell w m x g ≡ 0 → cell w′ m 0 g ≡ 0
+  pub kept : (g : ℕ) → g < count → ((x : ℕ) → x < c → cell w m x g ≢ 0) → cell w′ m 0 g ≢ 0
+
+pub meet-all-none : {m count : ℕ} {w : List ℕ} → MeetAll m count 1 w w
+meet-all-none {m} {count} {w} = record {
+  only = only-none m 0 w;
+  gone = λ x g l k z. let e : 0 ≡ x = omega arith in ap (λ (y : ℕ). cell w m y g) e ∙ z;
+  kept = λ g l n. n 0 (omega arith);
+}
+
+pub meet-all-more : {m count c : ℕ} {w₀ w w′ : List ℕ} → count ≤ m → 0 < c → MeetAll m count c w₀ w → Meets m c count w w′ → MeetAll m count (c + 1) w₀ w′
+meet-all-more {m} {count} {c} {w₀} {w} {w′} few-c some S M = record {
+  only = only-then (S .only) (M .only);
+  gone = λ x g l k z. gone x g l k z (same-or-not x c) (same-or-not (cell w m c g) 0);
+  kept = λ g l n. let nz : cell w m c g ≢ 0 = (λ z. n c (omega arith) (sym (same-c g (omega arith)) ∙ z)) in λ z. S .kept g l (λ x h. n x (omega arith)) (sym (M .kept g (omega arith) nz) ∙ z);
+}
+  where
+    same-c : (g : ℕ) → g < m → cell w m c g ≡ cell w₀ m c g
+    same-c g k = S .only .others c g (omega arith) k
+
+    gone : (x g : ℕ) → x < c + 1 → g < count → cell w₀ m x g ≡ 0 → (x ≡ c) ⊎ (x ≢ c) → (cell w m c g ≡ 0) ⊎ (cell w m c g ≢ 0) → cell w′ m 0 g ≡ 0
+    gone x g l k z e (inl zc) = M .gone g k zc
+    gone x g l k z (inl e) (inr nz) = absurd (nz (same-c g (omega arith) ∙ ap (λ (y : ℕ). cell w₀ m y g) (sym e) ∙ z))
+    gone x g l k z (inr n) (inr nz) = M .kept g (omega arith) nz ∙ S .gone x g (omega arith) k z
+
+-- ---- the whole
+
+pub record HoldAsks (b : List ℕ) (n m at count k : ℕ) (named w : List ℕ) : Type 0 where
+  pub shape : Shape b n m at count
+  pub names : Names n k named
+  pub some : 0 < k
+  pub size-is : length w ≡ 16 * m
+
+-- THE PROMISE: column 0 marks the groups that hold all named accounts
+pub record HoldGives (b : List ℕ) (m count : ℕ) (named w : List ℕ) : Type 0 where
+  pub size-is : length w ≡ 16 * m
+  pub marks : Marks (cell w m 0) count (λ (g : ℕ). holdsAll (graphIn b) (accountsIn named) (stored (graphIn b) g) ≡ true)
+
+module _ {b : List ℕ} {n m at count k : ℕ} {named w : List ℕ} (A : HoldAsks b n m at count k named w) where
+  abbrev GS : GroupsAt b at
+  GS = A .shape .groups-at
+
+  pub hold-few : (count ≤ m) × (m ≤ 2048) × (n ≤ 1024)
+  hold-few = (
+    omega (arith, few (GS .is-index), A .shape .links, A .shape .groups),
+    omega (arith, few-links (GS .is-index), A .shape .links),
+    omega (arith, few-accounts (GS .is-index), A .shape .accounts),
+  )
+
+  pub hold-lift : LiftGiven b at m count
+  hold-lift = record { groups-at = GS; links = A .shape .links; groups = A .shape .groups }
+
+  module _ {d : ℕ} {ranks′ : List ℕ} (R : RankState n k d named ranks′) where
+    pub hold-columns : d ≤ 16
+    hold-columns = omega (arith, R .few-ranks, A .names .few-names)
+
+    in-n : Ranks (graphIn b .n) d ranks′ (Before named k)
+    in-n = rw (A .shape .accounts) (R .ranks-are)
+
+    -- the first named account has a rank
+    pub hold-some : 0 < d
+    hold-some = go (same-or-not (rankIn ranks′ (fieldAt named (2 * 0))) 0)
+      where
+        l : fieldAt named (2 * 0) < n
+        l = name-below (A .names) 0 (A .some)
+
+        go : (rankIn ranks′ (fieldAt named (2 * 0)) ≡ 0) ⊎ (rankIn ranks′ (fieldAt named (2 * 0)) ≢ 0) → 0 < d
+        go (inl z) = absurd (R .ranks-are .no (fieldAt named (2 * 0)) l z (0, A .some, refl))
+        go (inr nz) = omega (arith, nz, R .ranks-are .most (fieldAt named (2 * 0)) l)
+
+    pub hold-mark : MarkGiven b m count d ranks′
+    hold-mark = record {
+      is-index = GS .is-index;
+      links = A .shape .links;
+      groups = A .shape .groups;
+      columns = hold-columns;
+      room = in-n .room;
+      most = in-n .most;
+    }
+
+    pub hold-gives : {w₁ w₂ w₃ : List ℕ} → OwnMarks b m count d ranks′ m w₁ → LiftAll b m count d w₁ w₂ → MeetAll m count d w₂ w₃ → HoldGives b m count named w₃
+    hold-gives {w₁} {w₂} {w₃} O L M = record {
+      size-is = M .only .length-is ∙ L .length-is ∙ O .size-is;
+      marks = record { yes = λ g l nz. all-held (graphIn b) ranks′ named d k (A .names .even) below in-n g (λ c h. yes g l nz c h (same-or-not (cell w₂ m c g) 0)); no = no };
+    }
+      where
+        below : (v : ℕ) → In v (accountsIn named) → v < graphIn b .n
+        below v i = omega (arith, A .names .below v i, A .shape .accounts)
+
+        marks-c : (c : ℕ) → c < d → Marks (cell w₂ m c) count (HeldBy (graphIn b) ranks′ c)
+        marks-c c h = L .held ranks′ c h (O .marks c h)
+
+        yes : (g : ℕ) → g < count → cell w₃ m 0 g ≢ 0 → (c : ℕ) → c < d → (cell w₂ m c g ≡ 0) ⊎ (cell w₂ m c g ≢ 0) → HeldBy (graphIn b) ranks′ c g
+        yes g l nz c h (inl z) = absurd (nz (M .gone c g h l z))
+        yes g l nz c h (inr n) = marks-c c h .yes g l n
+
+        no : (g : ℕ) → g < count → cell w₃ m 0 g ≡ 0 → ¬ (holdsAll (graphIn b) (accountsIn named) (stored (graphIn b) g) ≡ true)
+        no g l z t = M .kept g l (λ x h zx. marks-c x h .no g l zx (held-all (graphIn b) ranks′ named d k (A .names .even) below in-n g t x h)) z

@@ -1,0 +1,63 @@
+// Ranks of the named accounts: 1, 2, .. by first naming, so that a repeat changes nothing; 0 for every other account.
+ghost use mathlib.Core.Path.{_≡_};
+ghost use Prim.Native.Nat.{ℕ, _+_, _*_, _<_, _≤_};
+ghost use lib.ListN.{length};
+ghost use Rattle.holding.specs.Ranks.{NoRanks, Ranks, Before};
+ghost use Rattle.holding.specs.Turns.{Names, RankedOne, RankState};
+use wire::field_at;
+
+// No ranks for the accounts below n.
+fn clear_ranks(ranks: &mut [u32], n: usize)
+    requires { ⌜ n ≤ length (now ranks) ⌝ }
+    requires { ⌜ n ≤ 1024 ⌝ }
+    ensures { λ _. ⌜ NoRanks (length (now (ranks .entry))) n (now (ranks .exit)) ⌝ }
+{
+    let mut v: usize = 0;
+    while v < n {
+        ranks[v] = 0;
+        v += 1;
+    }
+}
+
+// Account v is named when d ranks are given; gives the ranks given then.
+fn rank_one(ranks: &mut [u32], v: usize, d: usize) -> usize
+    requires { ⌜ v < length (now ranks) ⌝ }
+    requires { ⌜ v < 1024 ⌝ }
+    requires { ⌜ d < 16 ⌝ }
+    ensures { λ r. ⌜ RankedOne v d r (now (ranks .entry)) (now (ranks .exit)) ⌝ }
+{
+    if ranks[v] != 0 {
+        return d;
+    }
+    ranks[v] = (d + 1) as u32;
+    d + 1
+}
+
+// The ranks of k named accounts, where there are none; gives how many there are.
+fn rank_all(ranks: &mut [u32], n: usize, named: &[u8], k: usize) -> usize
+    requires { ⌜ NoRanks (length (now ranks)) n (now ranks) ⌝ }
+    requires { ⌜ n ≤ length (now ranks) ⌝ }
+    requires { ⌜ n ≤ 1024 ⌝ }
+    requires { ⌜ Names n k (now named) ⌝ }
+    ensures { λ r. ⌜ RankState n k r (now (named .entry)) (now (ranks .exit)) ⌝ }
+{
+    let mut d: usize = 0;
+    let mut j: usize = 0;
+    while j < k {
+        let v = field_at(named, 2 * j);
+        d = rank_one(ranks, v, d);
+        j += 1;
+    }
+    d
+}
+
+// The same, whatever the memory held.
+pub fn rank_named(ranks: &mut [u32], n: usize, named: &[u8], k: usize) -> usize
+    requires { ⌜ n ≤ length (now ranks) ⌝ }
+    requires { ⌜ n ≤ 1024 ⌝ }
+    requires { ⌜ Names n k (now named) ⌝ }
+    ensures { λ r. ⌜ RankState n k r (now (named .entry)) (now (ranks .exit)) ⌝ }
+{
+    clear_ranks(ranks, n);
+    rank_all(ranks, n, named, k)
+}
