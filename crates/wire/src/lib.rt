@@ -2,7 +2,7 @@
 ghost use mathlib.Core.Path.{_≡_};
 ghost use Prim.Native.Nat.{ℕ, _+_, _*_, _/_, _%_, _<_, _≤_};
 ghost use lib.ListN.{length, take};
-ghost use Rattle.truss.specs.Record.{bodyLength, fieldAt, headBytes, whole};
+ghost use Rattle.truss.specs.Record.{bodyLength, field, fieldAt, headBytes, whole};
 ghost use Rattle.truss.specs.LinksFile.{pairBytes};
 ghost use Rattle.truss.specs.Index.{linkBytes, joinBytes, groupBytes};
 ghost use Rattle.wire.specs.Wire.{bodyOf};
@@ -110,6 +110,13 @@ fn low(x: usize) -> u8
     ensures { λ r. ⌜ r ≡ x % 256 ⌝ }
 {
     (x % 256) as u8
+}
+
+// A two-byte field.
+pub fn field_record(x: usize) -> [u8; 2]
+    ensures { λ r. ⌜ r ≡ field x ⌝ }
+{
+    [high(x), low(x)]
 }
 
 // A head: kind, accounts, links.

@@ -1,0 +1,46 @@
+-- The question that the code's enum names, and the desk after it. Assumes nothing.
+use mathlib.Core.Path.{_≡_, refl, sym, ap, _∙_}
+use mathlib.Core.Logic.{_⊎_, inl, inr, _≢_}
+use mathlib.Core.Bool.{Bool, true, false, cond}
+use mathlib.Core.List.{List}
+use Prim.Native.Nat.{ℕ, suc, _+_, _≤_, _<_, min}
+use native.Mathlib.Omega.{arith}
+use lib.Dec.{eqb}
+use borrow.Author.Tests.{eq-eqb, ne-eqb}
+use Rattle.truss.specs.Limits.{maxTally}
+use Rattle.truss.specs.Question.{Question, ask-strength, ask-joined, ask-groups-at, ask-strongest, ask-all, ask-links}
+use Rattle.truss.specs.Call.{Asked, nextTally, ask}
+use Rattle.index.specs.declared.Reply.{Reply as CReply}
+use Rattle.index.specs.Build.{replyIn}
+use Rattle.question.specs.declared.answer.Question.{Question as CQuestion}
+use Rattle.question.specs.declared.answer.Question.the-variants.{Strength, Joined, GroupsAt, StrongestGroups, AllGroups, GroupLinks}
+use Rattle.question.specs.declared.desk.Desk.{Desk}
+use Rattle.question.specs.Replies.{movedBy, AnswerGives}
+
+-- each case of the enum is one question of document 01; the accounts that C, D and E name are the lent ones
+abbrev pub questionOf : CQuestion → List ℕ → Question
+questionOf (Strength a b) named = ask-strength a b
+questionOf (Joined a b c d) named = ask-joined a b c d
+questionOf (GroupsAt k) named = ask-groups-at k named
+questionOf StrongestGroups named = ask-strongest named
+questionOf AllGroups named = ask-all named
+questionOf (GroupLinks a b k) named = ask-links k a b
+
+-- the desk after a reply
+abbrev pub deskAfter : Desk → CReply → Desk
+deskAfter d r = record { tally = movedBy r (d .tally) }
+
+pub tally-rests : {t : ℕ} → t ≡ maxTally → _≡_ {A = Desk} (record { tally = t }) (record { tally = nextTally t })
+tally-rests {t} q = let e : t ≡ nextTally t = omega arith in λ i. record { tally = e i }
+
+pub tally-moves : {t : ℕ} → t ≢ maxTally → t ≤ maxTally → _≡_ {A = Desk} (record { tally = t + 1 }) (record { tally = nextTally t })
+tally-moves {t} n l = let e : t + 1 ≡ nextTally t = omega arith in λ i. record { tally = e i }
+
+-- THE PROMISE of a question to the desk: reply, every byte of the lent buffer and the tally are what the definition gives
+abbrev pub AskGives : Desk → List ℕ → Question → List ℕ → CReply → List ℕ → Desk → Type 0
+AskGives d b q out r out′ e = _≡_ {A = Asked} (record { reply = replyIn r; buffer = out′; tally = e .tally }) (ask b q out (d .tally))
+
+pub ask-gives : (b : List ℕ) (q : Question) (out : List ℕ) {r : CReply} {out′ : List ℕ} (d e : Desk) → AnswerGives b q out r out′ → e ≡ deskAfter d r → AskGives d b q out r out′ e
+ask-gives b q out {r} {out′} d e A m =
+    let t = ap (λ (x : Desk). x .tally) m in
+    (λ i. record { reply = replyIn r; buffer = out′; tally = t i }) ∙ A (d .tally)

@@ -1,0 +1,133 @@
+-- A question from a host that lends the desk record as bytes. Assumes nothing.
+use mathlib.Core.Path.{_≡_, refl, sym, ap, _∙_}
+use mathlib.Core.Logic.{_⊎_, inl, inr, _≢_}
+use mathlib.Core.Bool.{Bool, true, false, cond}
+use mathlib.Core.List.{List, [], _∷_, _++_}
+use Prim.Native.Nat.{ℕ, _+_, _≤_, _<_}
+use native.Mathlib.Omega.{arith}
+use lib.Dec.{eqb, ltb}
+use lib.ListN.{length, drop}
+use borrow.Author.Tests.{lt-ltb, le-ltb, eq-eqb, ne-eqb}
+use Rattle.truss.specs.Limits.{tallyLength}
+use Rattle.truss.specs.Graph.{Graph}
+use Rattle.truss.specs.Refusal.{Refusal, Checked, passed, refused, refuse, refuseIf, andThen}
+use Rattle.truss.specs.IndexFile.{readIndex}
+use Rattle.truss.specs.Question.{Question, Answer, answer}
+use Rattle.truss.specs.Call.{Reply, Asked, AskedBytes, withRoom, overwrite, answerBytes, checkedAnswer, nextTally, settle, ask, tallyBytes, tallyIn, checkDesk, settleBytes, askBytes}
+use Rattle.index.specs.declared.Reply.{Reply as CReply}
+use Rattle.index.specs.Build.{replyIn, Replies, reply-same}
+use Rattle.wire.specs.Writing.{written, written-start}
+use Rattle.question.specs.declared.desk.Desk.{Desk}
+use Rattle.question.specs.Replies.{NotZero, movedBy, asked, AnswerGives, checked-not-zero}
+use Rattle.question.specs.Desk.{deskAfter}
+
+abbrev pub askedBytes : CReply → List ℕ → List ℕ → AskedBytes
+askedBytes r out desk = record { reply = replyIn r; buffer = out; desk = desk }
+
+-- THE PROMISE of a question with a desk record of bytes: reply and every byte of buffer and record are what the definition gives
+abbrev pub AskBytesGives : List ℕ → Question → List ℕ → List ℕ → CReply → List ℕ → List ℕ → Type 0
+AskBytesGives b q out desk r out′ desk′ = askedBytes r out′ desk′ ≡ askBytes b q out desk
+
+-- ---- a record that is long enough
+
+long-enough : (x : Checked Answer) (desk : List ℕ) → tallyLength ≤ length desk → checkDesk x desk ≡ x
+unfolding checkDesk andThen
+long-enough (passed a) desk l = rw (le-ltb (length desk) tallyLength l) refl
+long-enough (refused r) desk l = refl
+
+settled-bytes : (x : Checked Answer) (out desk : List ℕ) → NotZero x → {r : CReply} {out′ : List ℕ} → asked r out′ (tallyIn desk) ≡ settle x out (tallyIn desk)
+    → (r .refusal ≢ 0 → askedBytes r out′ desk ≡ settleBytes x out desk)
+    × ((desk′ : List ℕ) → r .refusal ≡ 0 → desk′ ≡ overwrite (tallyBytes (nextTally (tallyIn desk))) desk → askedBytes r out′ desk′ ≡ settleBytes x out desk)
+unfolding settle settleBytes NotZero
+settled-bytes (passed a) out desk n {r} {out′} q =
+    let z : r .refusal ≡ 0 = ap (λ (y : Asked). y .reply .refusal) q in
+    let e = ap (λ (y : Asked). y .reply) q in
+    let f = ap (λ (y : Asked). y .buffer) q in
+    ((λ nz. absurd (nz z)), (λ desk′ _ u. λ i. record { reply = e i; buffer = f i; desk = u i }))
+settled-bytes (refused x) out desk n {r} {out′} q =
+    let z : r .refusal ≡ x .number = ap (λ (y : Asked). y .reply .refusal) q in
+    let e = ap (λ (y : Asked). y .reply) q in
+    let f = ap (λ (y : Asked). y .buffer) q in
+    ((λ _. λ i. record { reply = e i; buffer = f i; desk = desk }), (λ desk′ w _. absurd (omega (arith, w, z, n))))
+
+module _ (b : List ℕ) (q : Question) (out desk : List ℕ) (l : tallyLength ≤ length desk) {r : CReply} {out′ : List ℕ} (A : AnswerGives b q out r out′) where
+  pub desk-stays : r .refusal ≢ 0 → AskBytesGives b q out desk r out′ desk
+  unfolding askBytes ask
+  desk-stays n = settled-bytes (checkedAnswer b q out) out desk (checked-not-zero b q out) (A (tallyIn desk)) .0 n ∙ ap (λ (x : Checked Answer). settleBytes x out desk) (sym (long-enough (checkedAnswer b q out) desk l))
+
+  -- the tally moved, and was written over the record's front
+  pub desk-moves : {d e : Desk} {desk′ : List ℕ} → r .refusal ≡ 0 → d .tally ≡ tallyIn desk → e ≡ deskAfter d r → desk′ ≡ written desk 0 (tallyBytes (e .tally)) → AskBytesGives b q out desk r out′ desk′
+  unfolding askBytes ask
+  desk-moves {d} {e} {desk′} z t m u =
+      settled-bytes (checkedAnswer b q out) out desk (checked-not-zero b q out) (A (tallyIn desk)) .1 desk′ z
+      (u ∙ written-start desk (tallyBytes (e .tally)) ∙ ap (λ (x : ℕ). overwrite (tallyBytes x) desk) moved)
+      ∙ ap (λ (x : Checked Answer). settleBytes x out desk) (sym (long-enough (checkedAnswer b q out) desk l))
+    where
+      moved : e .tally ≡ nextTally (tallyIn desk)
+      moved = ap (λ (x : Desk). x .tally) m ∙ rw (eq-eqb (r .refusal) 0 z) (ap nextTally t)
+
+-- ---- one that is too short: 12, if nothing else is met; so an empty buffer tells as much
+
+no-room-12 : (x : Checked Answer) (t u : Answer → Bool) → andThen (andThen x (λ a. refuseIf (t a) 12 0 (passed a))) (λ _. refuse 12 0) ≡ andThen (andThen x (λ a. refuseIf (u a) 12 0 (passed a))) (λ _. refuse {A = Answer} 12 0)
+unfolding andThen
+no-room-12 (passed a) t u = go (t a) (u a)
+  where
+    go : (v w : Bool) → andThen (refuseIf v 12 0 (passed a)) (λ _. refuse 12 0) ≡ andThen (refuseIf w 12 0 (passed a)) (λ _. refuse {A = Answer} 12 0)
+    go true true = refl
+    go true false = refl
+    go false true = refl
+    go false false = refl
+no-room-12 (refused r) t u = refl
+
+short-same : (b : List ℕ) (q : Question) (out : List ℕ) → andThen (checkedAnswer b q out) (λ _. refuse 12 0) ≡ andThen (checkedAnswer b q []) (λ _. refuse {A = Answer} 12 0)
+unfolding checkedAnswer
+short-same b q out = go (readIndex b)
+  where
+    go : (x : Checked Graph) → andThen (andThen x (λ G. andThen (answer G q) (λ a. withRoom (answerBytes a) out a))) (λ _. refuse 12 0)
+        ≡ andThen (andThen x (λ G. andThen (answer G q) (λ a. withRoom (answerBytes a) [] a))) (λ _. refuse {A = Answer} 12 0)
+    go (passed G) = no-room-12 (answer G q) (λ a. ltb (length out) (length (answerBytes a))) (λ a. ltb 0 (length (answerBytes a)))
+    go (refused r) = refl
+
+too-short : (x : Checked Answer) (desk : List ℕ) → length desk < tallyLength → checkDesk x desk ≡ andThen x (λ _. refuse 12 0)
+unfolding checkDesk andThen
+too-short (passed a) desk l = rw (lt-ltb (length desk) tallyLength l) refl
+too-short (refused r) desk l = refl
+
+refused-before : (x : Checked Answer) → NotZero x → {r : CReply} (out out′ desk : List ℕ) → asked r out′ 0 ≡ settle x [] 0
+    → (r .refusal ≢ 0 → askedBytes r out desk ≡ settleBytes (andThen x (λ _. refuse 12 0)) out desk)
+    × ((r′ : CReply) → r .refusal ≡ 0 → Replies r′ 12 0 → askedBytes r′ out desk ≡ settleBytes (andThen x (λ _. refuse 12 0)) out desk)
+unfolding settle settleBytes NotZero andThen
+refused-before (passed a) n {r} out out′ desk q =
+    let z : r .refusal ≡ 0 = ap (λ (y : Asked). y .reply .refusal) q in
+    ((λ nz. absurd (nz z)), (λ r′ _ R. let v = reply-same R in λ i. record { reply = v i; buffer = out; desk = desk }))
+refused-before (refused x) n {r} out out′ desk q =
+    let z : r .refusal ≡ x .number = ap (λ (y : Asked). y .reply .refusal) q in
+    let e = ap (λ (y : Asked). y .reply) q in
+    ((λ _. λ i. record { reply = e i; buffer = out; desk = desk }), (λ r′ w R. absurd (omega (arith, w, z, n))))
+
+module _ (b : List ℕ) (q : Question) (out desk : List ℕ) (l : length desk < tallyLength) {r : CReply} {out′ : List ℕ} (A : AnswerGives b q [] r out′) where
+  short-is : askBytes b q out desk ≡ settleBytes (andThen (checkedAnswer b q []) (λ _. refuse 12 0)) out desk
+  unfolding askBytes
+  short-is = ap (λ (x : Checked Answer). settleBytes x out desk) (too-short (checkedAnswer b q out) desk l ∙ short-same b q out)
+
+  pub short-refused : r .refusal ≢ 0 → AskBytesGives b q out desk r out desk
+  unfolding ask
+  short-refused n = refused-before (checkedAnswer b q []) (checked-not-zero b q []) out out′ desk (A 0) .0 n ∙ sym short-is
+
+  pub short-12 : {r′ : CReply} → r .refusal ≡ 0 → Replies r′ 12 0 → AskBytesGives b q out desk r′ out desk
+  unfolding ask
+  short-12 {r′} z R = refused-before (checkedAnswer b q []) (checked-not-zero b q []) out out′ desk (A 0) .1 r′ z R ∙ sym short-is
+
+-- what a record that is too short gives, whatever it holds
+abbrev pub ShortGives : List ℕ → Question → List ℕ → CReply → List ℕ → Type 0
+ShortGives b q out r out′ = (desk : List ℕ) → length desk < tallyLength → AskBytesGives b q out desk r out′ desk
+
+-- an empty buffer comes back empty
+pub nothing-back : (b : List ℕ) (q : Question) (desk : List ℕ) {r : CReply} (ys : List ℕ) {desk′ : List ℕ} → length ys ≡ 0 → AskBytesGives b q [] desk r ys desk′ → AskBytesGives b q [] desk r [] desk′
+nothing-back b q desk [] z A = A
+nothing-back b q desk (y ∷ ys) z A = absurd (omega arith)
+
+-- nothing was lent in front of a buffer
+pub nil-front : (ys out : List ℕ) → length ys ≡ 0 → ys ++ out ≡ out
+nil-front [] out q = refl
+nil-front (y ∷ ys) out q = absurd (omega arith)

@@ -1,0 +1,9 @@
+-- What the questions promise, and why.
+pub mod Replies
+pub mod Lists
+pub mod Links
+pub mod Levels
+pub mod Named
+pub mod Desk
+pub mod DeskBytes
+pub mod Run

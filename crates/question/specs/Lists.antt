@@ -1,0 +1,224 @@
+-- The numbers that a column marks, counted and written. Assumes nothing.
+use mathlib.Core.Path.{_≡_, refl, sym, ap, ap₂, _∙_}
+use mathlib.Core.Logic.{_⊎_, inl, inr, _≢_}
+use mathlib.Core.Bool.{Bool, true, false, cond, not}
+use mathlib.Core.List.{List, [], _∷_, _++_, append-nil}
+use Prim.Native.Nat.{ℕ, zero, suc, _+_, _*_, _-_, _≤_, _<_}
+use native.Mathlib.Nat.{zero-add}
+use native.Mathlib.Numerals.{add-one}
+use native.Mathlib.Omega.{arith}
+use lib.Dec.{eqb, ltb}
+use lib.ListN.{length, drop, length-append}
+use borrow.Author.Tests.{eq-eqb, ne-eqb, eqb-true, eqb-false, lt-ltb, le-ltb}
+use Rattle.truss.specs.Lists.{filter, range, concatMap}
+use Rattle.truss.specs.Record.{field}
+use Rattle.truss.specs.Question.{numbers}
+use Rattle.truss.specs.Call.{Written, done, withRoom, answerBytes, answerValue}
+use Rattle.laws.proofs.Numbers.{same-or-not}
+use Rattle.laws.proofs.Members.{range-in}
+use Rattle.laws.proofs.Sets.{filter-same}
+use Rattle.columns.specs.Columns.{cell}
+use Rattle.wire.specs.Writing.{written, written-start, written-none, written-length, written-then}
+use Rattle.index.specs.declared.Reply.{Reply as CReply}
+use Rattle.index.specs.Build.{replyIn, replied, Replies, reply-same, reply-with}
+use Rattle.holding.specs.Marks.{Marks}
+use Rattle.question.specs.Replies.{given}
+use Rattle.question.specs.Replies.{Lists as ListGives}
+
+-- column 0 marks i
+abbrev pub marksIt : List ℕ → ℕ → ℕ → Bool
+marksIt w m i = not (eqb (cell w m 0 i) 0)
+
+-- the numbers below size that it marks, rising
+unfoldable pub marked : List ℕ → ℕ → ℕ → List ℕ
+unfolding filter range
+marked w m size = filter (marksIt w m) (range 0 size)
+
+-- one number more
+range-last : (a n : ℕ) → range a (suc n) ≡ range a n ++ ((a + n) ∷ [])
+unfolding range
+range-last a zero = ap (λ (x : ℕ). x ∷ []) (omega arith)
+range-last a (suc n) = ap {B = List ℕ} (λ r. a ∷ r) (range-last (suc a) n ∙ ap (λ (x : ℕ). range (suc a) n ++ (x ∷ [])) (omega arith))
+
+filter-last : (p : ℕ → Bool) (xs : List ℕ) (x : ℕ) → filter p (xs ++ (x ∷ [])) ≡ filter p xs ++ cond (p x) (x ∷ []) []
+unfolding filter
+filter-last p [] x = go (p x)
+  where
+    go : (b : Bool) → cond b (x ∷ []) [] ≡ cond b (x ∷ []) []
+    go b = refl
+filter-last p (y ∷ ys) x = go (p y) (filter-last p ys x)
+  where
+    go : (b : Bool) → filter p (ys ++ (x ∷ [])) ≡ filter p ys ++ cond (p x) (x ∷ []) [] → cond b (y ∷ filter p (ys ++ (x ∷ []))) (filter p (ys ++ (x ∷ []))) ≡ cond b (y ∷ filter p ys) (filter p ys) ++ cond (p x) (x ∷ []) []
+    go true ih = ap {B = List ℕ} (λ r. y ∷ r) ih
+    go false ih = ih
+
+module _ (w : List ℕ) (m i : ℕ) where
+  more : marked w m (i + 1) ≡ marked w m i ++ cond (marksIt w m i) (i ∷ []) []
+  unfolding marked
+  more = rw add-one (ap (filter (marksIt w m)) (range-last 0 i ∙ ap (λ (x : ℕ). range 0 i ++ (x ∷ [])) (zero-add i)) ∙ filter-last (marksIt w m) (range 0 i) i)
+
+  pub marked-more : cell w m 0 i ≢ 0 → marked w m (i + 1) ≡ marked w m i ++ (i ∷ [])
+  marked-more n = more ∙ rw (ne-eqb (cell w m 0 i) 0 n) refl
+
+  pub marked-same : cell w m 0 i ≡ 0 → marked w m (i + 1) ≡ marked w m i
+  marked-same z = more ∙ rw (eq-eqb (cell w m 0 i) 0 z) (append-nil (marked w m i))
+
+  pub count-more : {x : ℕ} → x ≡ cell w m 0 i → x ≢ 0 → length (marked w m (i + 1)) ≡ length (marked w m i) + 1
+  count-more q n = ap length (marked-more (λ z. n (q ∙ z))) ∙ length-append (marked w m i) (i ∷ [])
+
+  pub count-same : {x : ℕ} → x ≡ cell w m 0 i → x ≡ 0 → length (marked w m (i + 1)) ≡ length (marked w m i)
+  count-same q z = ap length (marked-same (sym q ∙ z))
+
+pub marked-none : (w : List ℕ) (m : ℕ) → marked w m 0 ≡ []
+unfolding marked filter range
+marked-none w m = refl
+
+pub marked-few : (w : List ℕ) (m i : ℕ) → length (marked w m i) ≤ i
+marked-few w m zero = omega (arith, ap length (marked-none w m))
+marked-few w m (suc i) =
+    let ih = marked-few w m i in
+    let e : suc i ≡ i + 1 = omega arith in
+    let f = ap (λ (x : ℕ). length (marked w m x)) e in
+    go f ih (same-or-not (cell w m 0 i) 0)
+  where
+    go : length (marked w m (suc i)) ≡ length (marked w m (i + 1)) → length (marked w m i) ≤ i → (cell w m 0 i ≡ 0) ⊎ (cell w m 0 i ≢ 0) → length (marked w m (suc i)) ≤ suc i
+    go f ih (inl z) = omega (arith, f, ih, count-same w m i refl z)
+    go f ih (inr n) = omega (arith, f, ih, count-more w m i refl n)
+
+-- ---- their bytes
+
+abbrev pub numberBytes : List ℕ → List ℕ
+numberBytes xs = concatMap field xs
+
+bytes-snoc : (xs : List ℕ) (x : ℕ) → concatMap field (xs ++ (x ∷ [])) ≡ concatMap field xs ++ field x
+unfolding concatMap
+bytes-snoc [] x = append-nil (field x)
+bytes-snoc (y ∷ ys) x = ap (λ (r : List ℕ). field y ++ r) (bytes-snoc ys x) ∙ sym (mathlib.Core.List.append-assoc (field y) (concatMap field ys) (field x))
+
+pub bytes-length : (xs : List ℕ) → length (concatMap field xs) ≡ 2 * length xs
+unfolding concatMap
+bytes-length [] = refl
+bytes-length (x ∷ xs) = let ih = bytes-length xs in omega (arith, ih)
+
+module _ (w : List ℕ) (m i : ℕ) where
+  pub bytes-more : {x : ℕ} → x ≡ cell w m 0 i → x ≢ 0 → concatMap field (marked w m (i + 1)) ≡ concatMap field (marked w m i) ++ field i
+  bytes-more q n = ap (concatMap field) (marked-more w m i (λ z. n (q ∙ z))) ∙ bytes-snoc (marked w m i) i
+
+  pub bytes-same : {x : ℕ} → x ≡ cell w m 0 i → x ≡ 0 → concatMap field (marked w m (i + 1)) ≡ concatMap field (marked w m i)
+  bytes-same q z = ap (concatMap field) (marked-same w m i (sym q ∙ z))
+
+-- the whole answer
+pub answer-bytes : (xs : List ℕ) → answerBytes (numbers xs) ≡ field (length xs) ++ concatMap field xs
+unfolding answerBytes
+answer-bytes xs = refl
+
+pub answer-length : (xs : List ℕ) → length (answerBytes (numbers xs)) ≡ 2 + 2 * length xs
+unfolding answerBytes
+answer-length xs = omega (arith, bytes-length xs)
+
+module _ (xs out : List ℕ) where
+  pub list-no-room : {r : CReply} → length out < 2 + 2 * length xs → Replies r 12 0 → ListGives xs out r out
+  unfolding given
+  list-no-room l R = reply-with out R ∙ rw (lt-ltb (length out) (length (answerBytes (numbers xs))) (omega (arith, answer-length xs)), given) refl
+
+  pub list-wrote : {r : CReply} {out′ : List ℕ} → 2 + 2 * length xs ≤ length out → out′ ≡ written out 0 (field (length xs) ++ concatMap field xs) → Replies r 0 (2 + 2 * length xs) → ListGives xs out r out′
+  unfolding given answerValue
+  list-wrote {r} {out′} l q R =
+      let a = answer-bytes xs in
+      let e : out′ ≡ answerBytes (numbers xs) ++ drop (length (answerBytes (numbers xs))) out = q ∙ ap (written out 0) (sym a) ∙ written-start out (answerBytes (numbers xs)) in
+      let v : replyIn r ≡ done (length (answerBytes (numbers xs))) = reply-same R ∙ ap done (sym (answer-length xs)) in
+      rw (le-ltb (length out) (length (answerBytes (numbers xs))) (omega (arith, answer-length xs)), given) (λ i. record { reply = v i; buffer = e i })
+
+-- ---- what is marked is what passes a test
+
+bool-same : (a b : Bool) → (a ≡ true → b ≡ true) → (b ≡ true → a ≡ true) → a ≡ b
+bool-same true true f g = refl
+bool-same true false f g = sym (f refl)
+bool-same false true f g = g refl
+bool-same false false f g = refl
+
+pub marked-are : (w : List ℕ) (m size : ℕ) (p : ℕ → Bool) → Marks (cell w m 0) size (λ (i : ℕ). p i ≡ true) → marked w m size ≡ filter p (range 0 size)
+unfolding marked
+marked-are w m size p M = filter-same (marksIt w m) p (range 0 size) (λ i k. at i (omega (arith, range-in 0 size k .1)))
+  where
+    at : (i : ℕ) → i < size → marksIt w m i ≡ p i
+    at i l = bool-same (marksIt w m i) (p i) (λ t. to t (eqb (cell w m 0 i) 0) refl) (λ t. back t (eqb (cell w m 0 i) 0) refl)
+      where
+        to : marksIt w m i ≡ true → (x : Bool) → eqb (cell w m 0 i) 0 ≡ x → p i ≡ true
+        to t true e = absurd (let y : false ≡ true = sym (ap not e) ∙ t in let z : _≡_ {A = ℕ} 0 1 = cc in omega arith)
+        to t false e = M .yes i l (eqb-false (cell w m 0 i) 0 e)
+
+        back : p i ≡ true → (x : Bool) → eqb (cell w m 0 i) 0 ≡ x → marksIt w m i ≡ true
+        back t true e = absurd (M .no i l (eqb-true (cell w m 0 i) 0 e) t)
+        back t false e = ap not e
+
+-- ---- the loops
+
+-- what counting and writing ask of the work space
+pub record ColumnGiven (m size : ℕ) (w : List ℕ) : Type 0 where
+  pub size-is : length w ≡ 16 * m
+  pub part : size ≤ m
+  pub few : m ≤ 2048
+
+pub counted-more : (w : List ℕ) (m i : ℕ) {c x r : ℕ} → c ≡ length (marked w m i) → x ≡ cell w m 0 i → r ≡ cond (eqb x 0) 0 1 → c + r ≡ length (marked w m (i + 1))
+counted-more w m i {c} {x} {r} q e u = go (same-or-not x 0)
+  where
+    go : (x ≡ 0) ⊎ (x ≢ 0) → c + r ≡ length (marked w m (i + 1))
+    go (inl z) = let v : r ≡ 0 = u ∙ rw (eq-eqb x 0 z) refl in omega (arith, q, v, count-same w m i e z)
+    go (inr n) = let v : r ≡ 1 = u ∙ rw (ne-eqb x 0 n) refl in omega (arith, q, v, count-more w m i e n)
+
+marked-rises : (w : List ℕ) (m i j : ℕ) → length (marked w m i) ≤ length (marked w m (i + j))
+marked-rises w m i zero = let e : i ≡ i + 0 = omega arith in omega (arith, ap (λ (x : ℕ). length (marked w m x)) e)
+marked-rises w m i (suc j) = go (same-or-not (cell w m 0 (i + j)) 0) (marked-rises w m i j)
+  where
+    e : length (marked w m (i + suc j)) ≡ length (marked w m (i + j + 1))
+    e = ap (λ (x : ℕ). length (marked w m x)) (omega arith)
+
+    go : (cell w m 0 (i + j) ≡ 0) ⊎ (cell w m 0 (i + j) ≢ 0) → length (marked w m i) ≤ length (marked w m (i + j)) → length (marked w m i) ≤ length (marked w m (i + suc j))
+    go (inl z) ih = omega (arith, e, ih, count-same w m (i + j) refl z)
+    go (inr n) ih = omega (arith, e, ih, count-more w m (i + j) refl n)
+
+-- a number is written at a place, if x is not 0
+pub record PutGives (at i x r : ℕ) (out out′ : List ℕ) : Type 0 where
+  pub none : x ≡ 0 → (r ≡ at) × (out′ ≡ out)
+  pub some : x ≢ 0 → (r ≡ at + 2) × (out′ ≡ written out at (field i))
+
+-- the first i numbers are written
+pub record WriteState (w : List ℕ) (m i at : ℕ) (out₀ out : List ℕ) : Type 0 where
+  pub place : at ≡ 2 * length (marked w m i)
+  pub bytes : out ≡ written out₀ 0 (concatMap field (marked w m i))
+
+pub write-none : (w : List ℕ) (m : ℕ) (out : List ℕ) → WriteState w m 0 0 out out
+unfolding concatMap
+write-none w m out =
+    let e = marked-none w m in
+    record { place = omega (arith, ap length e); bytes = written-none out 0 ∙ ap (λ (x : List ℕ). written out 0 (concatMap field x)) (sym e) }
+
+module _ {w : List ℕ} {m size i at : ℕ} {out₀ out : List ℕ} (room : 2 * length (marked w m size) ≤ length out₀) (S : WriteState w m i at out₀ out) (l : i < size) where
+  fits : 2 * length (marked w m i) ≤ length out₀
+  fits = let e : i + (size - i) ≡ size = omega arith in omega (arith, room, marked-rises w m i (size - i), ap (λ (x : ℕ). length (marked w m x)) e)
+
+  pub out-length : length out ≡ length out₀
+  out-length = ap length (S .bytes) ∙ written-length out₀ 0 (concatMap field (marked w m i)) (omega (arith, fits, bytes-length (marked w m i)))
+
+  pub put-room : {x : ℕ} → x ≡ cell w m 0 i → x ≢ 0 → at + 2 ≤ length out
+  put-room q n =
+      let e : i + 1 + (size - (i + 1)) ≡ size = omega arith in
+      omega (arith, room, S .place, count-more w m i q n, marked-rises w m (i + 1) (size - (i + 1)), ap (λ (x : ℕ). length (marked w m x)) e, out-length)
+
+  pub write-more : {x r : ℕ} {out′ : List ℕ} → x ≡ cell w m 0 i → PutGives at i x r out out′ → WriteState w m (i + 1) r out₀ out′
+  write-more {x} {r} {out′} q P = go (same-or-not x 0)
+    where
+      go : (x ≡ 0) ⊎ (x ≢ 0) → WriteState w m (i + 1) r out₀ out′
+      go (inl z) = let p = P .none z in record { place = omega (arith, p .0, S .place, count-same w m i q z); bytes = p .1 ∙ S .bytes ∙ ap (written out₀ 0) (sym (bytes-same w m i q z)) }
+      go (inr n) =
+          let p = P .some n in
+          let xs : List ℕ = concatMap field (marked w m i) in
+          let e : at ≡ 0 + length xs = omega (arith, S .place, bytes-length (marked w m i)) in
+          record {
+            place = omega (arith, p .0, S .place, count-more w m i q n);
+            bytes = p .1 ∙ ap₂ (λ (o : List ℕ) (a : ℕ). written o a (field i)) (S .bytes) e ∙ written-then out₀ 0 xs (omega (arith, fits, bytes-length (marked w m i))) (field i) ∙ ap (written out₀ 0) (sym (bytes-more w m i q n));
+          }
+
+pub write-done : {w : List ℕ} {m size i at : ℕ} {out₀ out : List ℕ} → i ≡ size → WriteState w m i at out₀ out → out ≡ written out₀ 0 (concatMap field (marked w m size))
+write-done {w} {m} {size} {i} {at} {out₀} q S = S .bytes ∙ ap (λ (x : ℕ). written out₀ 0 (concatMap field (marked w m x))) q

@@ -1,0 +1,107 @@
+// The desk: the tally of questions answered.
+ghost use mathlib.Core.List.{[]};
+ghost use mathlib.Core.Path.{_≡_};
+ghost use Prim.Native.Nat.{ℕ, _≤_};
+ghost use lib.ListN.{length};
+ghost use Rattle.truss.specs.Call.{tallyBytes, tallyIn};
+ghost use Rattle.question.specs.Desk.{AskGives, deskAfter, questionOf};
+ghost use Rattle.question.specs.DeskBytes.{AskBytesGives, ShortGives};
+use crate::answer::Question;
+use crate::answer::answer;
+use index::Reply;
+use index::answered;
+use wire::paste;
+use wire::wide;
+
+// The desk record: how many questions were answered, resting at the greatest number.
+pub struct Desk {
+    pub tally: u32,
+}
+
+// The desk after a reply: one more if it was answered.
+pub fn desk_after(d: Desk, r: Reply) -> Desk
+    ensures { λ e. ⌜ e ≡ deskAfter d r ⌝ }
+{
+    let t = d.tally;
+    let refusal = r.refusal;
+    if refusal != 0 {
+        return Desk { tally: t };
+    }
+    if t == 4294967295 {
+        return Desk { tally: t };
+    }
+    Desk { tally: t + 1 }
+}
+
+// A question to the desk that is lent: answered, and the tally moved by the reply. The desk is read and stored whole, so that its proof names no field.
+pub fn ask(index: &[u8], named: &[u8], out: &mut [u8], q: Question, desk: &mut Desk) -> Reply
+    ensures { λ r. ⌜ AskGives (now (desk .entry)) (now (index .entry)) (questionOf q (now (named .entry))) (now (out .entry)) r (now (out .exit)) (now (desk .exit)) ⌝ }
+{
+    let r = answer(index, named, out, q);
+    let d = *desk;
+    let e = desk_after(d, r);
+    *desk = e;
+    r
+}
+
+// The tally in the first four bytes of a desk record, high byte first.
+fn tally_of(desk: &[u8]) -> u32
+    requires { ⌜ 4 ≤ length (now desk) ⌝ }
+    ensures { λ r. ⌜ r ≡ tallyIn (now (desk .entry)) ⌝ }
+{
+    let a = wide(desk[0]);
+    let b = wide(desk[1]);
+    let c = wide(desk[2]);
+    let d = wide(desk[3]);
+    (a * 16777216 + b * 65536 + c * 256 + d) as u32
+}
+
+// A tally as bytes.
+fn tally_record(t: u32) -> [u8; 4]
+    ensures { λ r. ⌜ r ≡ tallyBytes t ⌝ }
+{
+    let x = t as usize;
+    [
+        (x / 16777216 % 256) as u8,
+        (x / 65536 % 256) as u8,
+        (x / 256 % 256) as u8,
+        (x % 256) as u8,
+    ]
+}
+
+// A question with a desk record that is too short: 12, if nothing else is met. It is asked with an empty buffer, so that nothing is written.
+fn ask_without_desk(index: &[u8], named: &[u8], out: &mut [u8], q: Question) -> Reply
+    ensures { λ r. ⌜ ShortGives (now (index .entry)) (questionOf q (now (named .entry))) (now (out .entry)) r (now (out .exit)) ⌝ }
+{
+    let r = answer(index, named, &mut out[..0], q);
+    if r.refusal != 0 {
+        return r;
+    }
+    answered(12, 0)
+}
+
+// A question from a host that lends the desk record as bytes: four to the tally, high byte first. Bytes after them stay.
+pub fn ask_bytes(index: &[u8], named: &[u8], out: &mut [u8], q: Question, desk: &mut [u8]) -> Reply
+    ensures { λ r. ⌜ AskBytesGives (now (index .entry)) (questionOf q (now (named .entry))) (now (out .entry)) (now (desk .entry)) r (now (out .exit)) (now (desk .exit)) ⌝ }
+{
+    if desk.len() < 4 {
+        return ask_without_desk(index, named, out, q);
+    }
+    let r = answer(index, named, out, q);
+    if r.refusal != 0 {
+        return r;
+    }
+    let t = tally_of(desk);
+    let e = desk_after(Desk { tally: t }, r);
+    let rec = tally_record(e.tally);
+    paste(desk, &rec);
+    r
+}
+
+// The same for A and B, which name no accounts and write no answer.
+pub fn ask_number(index: &[u8], q: Question, desk: &mut [u8]) -> Reply
+    ensures { λ r. ⌜ AskBytesGives (now (index .entry)) (questionOf q []) [] (now (desk .entry)) r [] (now (desk .exit)) ⌝ }
+{
+    let mut none = [0u8; 1];
+    ask_bytes(index, &index[..0], &mut none[..0], q, desk)
+}
