@@ -1,8 +1,14 @@
 // The calls for the terminal's C host: numbers and byte slices in, four numbers out. A slice is a pointer and then a length. include/footballelm.h has them.
+ghost use mathlib.Core.List.{[]};
 ghost use mathlib.Core.Path.{_≡_};
+ghost use Rattle.truss.specs.Question.{ask-all, ask-groups-at, ask-joined, ask-links, ask-strength, ask-strongest};
 ghost use Rattle.index.specs.Build.{BuildGives};
 ghost use Rattle.index.specs.Read.{ReadGives};
+ghost use Rattle.question.specs.DeskBytes.{AskBytesGives};
 use index::Reply;
+use question::answer::Question;
+use question::desk::ask_bytes;
+use question::desk::ask_number;
 
 // A links file into its index.
 #[no_mangle]
@@ -18,4 +24,81 @@ pub extern "C" fn fe_read(index: &[u8], links: &mut [u8]) -> Reply
     ensures { λ r. ⌜ ReadGives (now (index .entry)) (now (links .entry)) r (now (links .exit)) ⌝ }
 {
     index::read(index, links)
+}
+
+// A. The strength of link a-b.
+#[no_mangle]
+pub extern "C" fn fe_strength(index: &[u8], a: u32, b: u32, desk: &mut [u8]) -> Reply
+    ensures { λ r. ⌜ AskBytesGives (now (index .entry)) (ask-strength a b) [] (now (desk .entry)) r [] (now (desk .exit)) ⌝ }
+{
+    ask_number(index, Question::Strength { a, b }, desk)
+}
+
+// B. The largest k at which links a-b and c-d are joined, 0 if none.
+#[no_mangle]
+pub extern "C" fn fe_joined(index: &[u8], a: u32, b: u32, c: u32, d: u32, desk: &mut [u8]) -> Reply
+    ensures { λ r. ⌜ AskBytesGives (now (index .entry)) (ask-joined a b c d) [] (now (desk .entry)) r [] (now (desk .exit)) ⌝ }
+{
+    ask_number(index, Question::Joined { a, b, c, d }, desk)
+}
+
+// C. The groups at k that hold all named accounts.
+#[no_mangle]
+pub extern "C" fn fe_groups_at(
+    index: &[u8],
+    accounts: &[u8],
+    k: u32,
+    answer: &mut [u8],
+    desk: &mut [u8],
+) -> Reply
+    ensures { λ r. ⌜ AskBytesGives (now (index .entry)) (ask-groups-at k (now (accounts .entry))) (now (answer .entry)) (now (desk .entry)) r (now (answer .exit)) (now (desk .exit)) ⌝ }
+{
+    ask_bytes(index, accounts, answer, Question::GroupsAt { k }, desk)
+}
+
+// D. Of the stored groups that hold all of them, those whose strength is greatest.
+#[no_mangle]
+pub extern "C" fn fe_strongest_groups(
+    index: &[u8],
+    accounts: &[u8],
+    answer: &mut [u8],
+    desk: &mut [u8],
+) -> Reply
+    ensures { λ r. ⌜ AskBytesGives (now (index .entry)) (ask-strongest (now (accounts .entry))) (now (answer .entry)) (now (desk .entry)) r (now (answer .exit)) (now (desk .exit)) ⌝ }
+{
+    ask_bytes(index, accounts, answer, Question::StrongestGroups, desk)
+}
+
+// E. All stored groups that hold all of them.
+#[no_mangle]
+pub extern "C" fn fe_all_groups(
+    index: &[u8],
+    accounts: &[u8],
+    answer: &mut [u8],
+    desk: &mut [u8],
+) -> Reply
+    ensures { λ r. ⌜ AskBytesGives (now (index .entry)) (ask-all (now (accounts .entry))) (now (answer .entry)) (now (desk .entry)) r (now (answer .exit)) (now (desk .exit)) ⌝ }
+{
+    ask_bytes(index, accounts, answer, Question::AllGroups, desk)
+}
+
+// F. The links of the group at k with link a-b; none if its strength is below k.
+#[no_mangle]
+pub extern "C" fn fe_group_links(
+    index: &[u8],
+    a: u32,
+    b: u32,
+    k: u32,
+    answer: &mut [u8],
+    desk: &mut [u8],
+) -> Reply
+    ensures { λ r. ⌜ AskBytesGives (now (index .entry)) (ask-links k a b) (now (answer .entry)) (now (desk .entry)) r (now (answer .exit)) (now (desk .exit)) ⌝ }
+{
+    ask_bytes(
+        index,
+        &index[..0],
+        answer,
+        Question::GroupLinks { a, b, k },
+        desk,
+    )
 }
