@@ -17,9 +17,13 @@ typedef struct {
     uint32_t refusal, value, second, third;
 } fe_reply;
 
-/* Bytes that are enough for any index, and for any links file. */
+/* Bytes that are enough for any index, for any links file, and for any answer (a count and 2,048 numbers). */
 #define FE_INDEX_MAX 40960
 #define FE_LINKS_MAX 10246
+#define FE_ANSWER_MAX 4098
+
+/* Bytes of a desk record that the calls use. */
+#define FE_DESK 4
 
 /* Bytes of stack that are enough for any call, below the caller's frame. Measured by tests/c/stack.c, not proved: fe_build took 147,879 of them, fe_read 139,671. A
  * thread needs this and what its own functions and the C library take. */
@@ -69,6 +73,56 @@ fe_reply fe_build(const uint8_t *links, size_t links_len, uint8_t *index, size_t
  *     7   the bytes are not the index of any links file: every strength, join and group is checked, so this costs about one build
  *     12  the links file is longer than links_len; a buffer of just its length suffices */
 fe_reply fe_read(const uint8_t *index, size_t index_len, uint8_t *links, size_t links_len);
+
+/* Questions on an index.
+ *
+ * The words:
+ *   link      a pair of accounts that the links file names; a call takes them in either order. Links are numbered from 0, by lower, then higher account.
+ *   strength  of a link, 2 to 64: the largest k such that some set of links holds it and each link of the set is in at least k - 2 triangles of the set
+ *             (trussness). A link in no triangle has 2.
+ *   group     at k, from 3 to 64: a link of strength k or more with every link that it reaches over triangles, each sharing a link with the one before, whose
+ *             links all have strength k or more (a triangle-connected k-truss community). The same set is stored once, and its strength is its largest k.
+ *             Stored groups are numbered from 0, by falling strength, then by least link. A group holds an account that is an end of one of its links.
+ *
+ * What is lent:
+ *   index, index_len        the index; it is only read. Any bytes may be lent: every question checks them all, which costs about one build.
+ *   accounts, accounts_len  1 to 16 accounts, two bytes each, high byte first; they are only read. A repeat counts as one more and changes no answer.
+ *   answer, answer_len      where the answer of C to F goes: a count, then that many numbers, rising, each of these two bytes, high byte first.
+ *   desk, desk_len          the desk record: its first four bytes are the tally of questions answered, high byte first.
+ *
+ * Done: `value` is the answer of A and B, the number of bytes written at `answer` by C to F; the bytes after those stay. The tally is one more, but rests at
+ * 4,294,967,295; the bytes of the desk record after the fourth stay.
+ *
+ * Refused, with place 0: the first of the call's refusals that applies. The tally stays.
+ *     7   the bytes are not the index of any links file
+ *     8   no account named, over 16, or an odd accounts_len
+ *     9   an account not below the number of accounts
+ *     10  k below 3 or above 64
+ *     11  the pair is no link
+ *     12  the answer is longer than answer_len; a buffer of just its length suffices, which is two bytes for no numbers. Or desk_len is below FE_DESK */
+
+/* A. The strength of the link a-b. Refused by 7, 9, 11, 12, in this order. */
+fe_reply fe_strength(const uint8_t *index, size_t index_len, uint32_t a, uint32_t b, uint8_t *desk, size_t desk_len);
+
+/* B. The largest k at which the links a-b and c-d are in one group, 0 if there is none; a link with itself gives its strength, or 0 at strength 2.
+ * Refused by 7, 9 (any of the four accounts), 11 (either pair), 12, in this order. */
+fe_reply fe_joined(const uint8_t *index, size_t index_len, uint32_t a, uint32_t b, uint32_t c, uint32_t d, uint8_t *desk, size_t desk_len);
+
+/* C. The numbers of the groups at k that hold all the accounts; their strength may be above k. Refused by 7, 8, 9, 10, 12, in this order. */
+fe_reply fe_groups_at(const uint8_t *index, size_t index_len, const uint8_t *accounts, size_t accounts_len, uint32_t k, uint8_t *answer, size_t answer_len,
+                      uint8_t *desk, size_t desk_len);
+
+/* D. Of the stored groups that hold all the accounts, the numbers of those with the greatest strength. Refused by 7, 8, 9, 12, in this order. */
+fe_reply fe_strongest_groups(const uint8_t *index, size_t index_len, const uint8_t *accounts, size_t accounts_len, uint8_t *answer, size_t answer_len,
+                             uint8_t *desk, size_t desk_len);
+
+/* E. The numbers of all stored groups that hold all the accounts. Refused by 7, 8, 9, 12, in this order. */
+fe_reply fe_all_groups(const uint8_t *index, size_t index_len, const uint8_t *accounts, size_t accounts_len, uint8_t *answer, size_t answer_len,
+                       uint8_t *desk, size_t desk_len);
+
+/* F. The numbers of the links of the group at k with the link a-b; none if its strength is below k. Refused by 7, 9, 10, 11, 12, in this order. */
+fe_reply fe_group_links(const uint8_t *index, size_t index_len, uint32_t a, uint32_t b, uint32_t k, uint8_t *answer, size_t answer_len,
+                        uint8_t *desk, size_t desk_len);
 
 #ifdef __cplusplus
 }
