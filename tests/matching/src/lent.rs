@@ -23,14 +23,14 @@ pub const READ: Pair = Pair {
 };
 
 /// Bytes to be lent, in the middle of others that no call may touch. All that is not given is random.
-struct Lent {
-    bytes: Vec<u8>,
-    from: usize,
-    to: usize,
+pub struct Lent {
+    pub bytes: Vec<u8>,
+    pub from: usize,
+    pub to: usize,
 }
 
 impl Lent {
-    fn new(random: &mut Random, length: usize) -> Lent {
+    pub fn new(random: &mut Random, length: usize) -> Lent {
         let from = random.within(16..=80);
         let to = from + length;
         let mut bytes = vec![0; to + random.within(16..=80)];
@@ -42,20 +42,20 @@ impl Lent {
         Lent { bytes, from, to }
     }
 
-    fn holding(random: &mut Random, given: &[u8]) -> Lent {
+    pub fn holding(random: &mut Random, given: &[u8]) -> Lent {
         let mut lent = Lent::new(random, given.len());
         lent.bytes[lent.from..lent.to].copy_from_slice(given);
         lent
     }
 
     /// The slice as C is lent it: where it begins and how long it is.
-    fn lend(&mut self) -> (*mut u8, usize) {
+    pub fn lend(&mut self) -> terminal::Slice {
         let whole = self.bytes.as_mut_ptr();
         (unsafe { whole.add(self.from) }, self.to - self.from)
     }
 
     /// Where this first differs from what it should be.
-    fn differs(&self, right: &[u8]) -> Option<String> {
+    pub fn differs(&self, right: &[u8]) -> Option<String> {
         let at = (0..right.len()).find(|&at| self.bytes[at] != right[at])?;
         let part = match at {
             _ if at < self.from => format!("{} before the slice", self.from - at),
@@ -66,6 +66,20 @@ impl Lent {
             "byte {part} is {:02x}, should be {:02x}",
             self.bytes[at], right[at]
         ))
+    }
+}
+
+/// The reference's reply as C gets it.
+pub fn four_numbers(reply: Reply) -> terminal::Reply {
+    let (refusal, value) = match reply {
+        Reply::Answered(value) => (0, value),
+        Reply::Refused { number, place } => (number.into(), place),
+    };
+    terminal::Reply {
+        refusal,
+        value,
+        second: 0,
+        third: 0,
     }
 }
 
@@ -86,16 +100,7 @@ pub fn compare(
     let (to, to_len) = buffer.lend();
     let reply = unsafe { (pair.library)(from, from_len, to, to_len) };
 
-    let (refusal, value) = match expected {
-        Reply::Answered(value) => (0, value),
-        Reply::Refused { number, place } => (number.into(), place),
-    };
-    let wanted = terminal::Reply {
-        refusal,
-        value,
-        second: 0,
-        third: 0,
-    };
+    let wanted = four_numbers(expected);
     let fault = |what: String| Err(format!("{}, {room} bytes lent: {what}", pair.name));
     if reply != wanted {
         return fault(format!("reply {reply:?}, should be {wanted:?}"));
@@ -106,8 +111,8 @@ pub fn compare(
     if let Some(text) = buffer.differs(&right) {
         return fault(format!("lent to be written: {text}"));
     }
-    let written = buffer.from..buffer.from + value as usize;
-    Ok((refusal == 0).then(|| right[written].to_vec()))
+    let written = buffer.from..buffer.from + wanted.value as usize;
+    Ok((wanted.refusal == 0).then(|| right[written].to_vec()))
 }
 
 /// Compares a call on one input, with rooms of every kind. Gives the result, if there is one, or the first difference.

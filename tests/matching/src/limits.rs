@@ -21,7 +21,7 @@ pub struct Limit {
     pub said: Said,
 }
 
-const CARD_A: [(u16, u16); 6] = [(0, 1), (0, 2), (1, 2), (1, 3), (2, 3), (3, 4)];
+pub const CARD_A: [(u16, u16); 6] = [(0, 1), (0, 2), (1, 2), (1, 3), (2, 3), (3, 4)];
 const INDEX_A: &str = "0100050006 0200000001030000 0200000002030000 0200010002030000 0200010003030000 0200020003030000 020003000402FFFF \
      030000000103 030000000203 030002000303 030002000403 04FFFF030000 05";
 
@@ -33,7 +33,7 @@ fn hex(text: &str) -> Vec<u8> {
         .collect()
 }
 
-fn all_pairs(accounts: std::ops::Range<u16>) -> Vec<(u16, u16)> {
+pub fn all_pairs(accounts: std::ops::Range<u16>) -> Vec<(u16, u16)> {
     let end = accounts.end;
     accounts
         .flat_map(|a| (a + 1..end).map(move |b| (a, b)))
@@ -41,7 +41,7 @@ fn all_pairs(accounts: std::ops::Range<u16>) -> Vec<(u16, u16)> {
 }
 
 /// So many links with no triangle: every account below 32 with every account from 32.
-fn flat(links: usize) -> Vec<(u16, u16)> {
+pub fn flat(links: usize) -> Vec<(u16, u16)> {
     (32..)
         .flat_map(|b| (0..32).map(move |a| (a, b)))
         .take(links)

@@ -1,22 +1,30 @@
-//! Matches the library's C calls against the reference, an independent program, on random, shuffled and damaged files and on files at the limits.
+//! Matches the library's C calls against the reference, an independent program: build and reading on random, shuffled and damaged files and on files at the
+//! limits, random questions on the random indexes, good and damaged, and questions with known answers.
 //!
-//! With no word: all of it. With a number: the files of that seed. With a name: that file at the limits.
-//! The last line is `N passed, M failed`, one for each file compared and for each planted fault that the comparison must find.
+//! With no word: all of it. With a number: the files and questions of that seed. With a name: that file at the limits, or that known answer.
+//! The last line is `N passed, M failed`, one for each file and question compared and for each planted fault that the comparison must find.
 
+mod asked;
+mod known;
 mod lent;
 mod limits;
 mod planted;
+mod planted_questions;
+mod questions;
 
 use std::process::ExitCode;
 
+use asked::{Asker, Met};
 use lent::{compare_all, BUILD};
 use limits::Said;
+use questions::Asking;
 use reference::card::{links_file, Card};
 use reference::damage;
 use reference::limits::MAX_LINKS;
 use reference::random::{card, shuffle_pairs, Random, Shape};
+use terminal::Question;
 
-/// Each seed makes a card, a shuffled copy of it and two damaged ones, and reads its index and a damaged one.
+/// Each seed makes a card, a shuffled copy of it and two damaged ones, and reads its index and a damaged one, and asks questions on both.
 const SEEDS: u64 = 6_000;
 
 /// So many failures show the file's bytes; the others can be repeated.
@@ -28,6 +36,7 @@ struct Count {
     failed: usize,
     /// Links files by what the reference says of them: 0 accepted, else refused by that number.
     met: [usize; 7],
+    asked: Met,
 }
 
 impl Count {
@@ -51,6 +60,29 @@ impl Count {
         let refused = Card::read(file).err();
         self.met[refused.map_or(0, |refusal| refusal.number.into())] += 1;
         compare_all(&BUILD, random, file)
+    }
+
+    /// Asks questions on an index: the first each by itself, the others in a row on one desk record. Those after a failure are left out.
+    fn ask(
+        &mut self,
+        noise: &mut Random,
+        word: &str,
+        what: &str,
+        index: &[u8],
+        [each, in_a_row]: [Vec<Question>; 2],
+    ) {
+        let mut asker = Asker::new(terminal::ask, noise, index);
+        for question in each {
+            let found = asker.compare_all(&question).map(drop);
+            let failed = found.is_err();
+            self.add(word, index, &format!("{what} asked {question:?}"), found);
+            if failed {
+                return;
+            }
+        }
+        let found = asker.in_a_row(&in_a_row);
+        self.add(word, index, &format!("{what} asked in a row"), found);
+        self.asked.merge(&asker.met);
     }
 }
 
@@ -93,16 +125,29 @@ fn seed(count: &mut Count, seed: u64) {
 
     if let Some(index) = index {
         let damaged = damage::index(&mut random, &index);
-        for (what, bytes) in [("index", index), ("damaged index", damaged)] {
-            let found = compare_all(&lent::READ, &mut noise, &bytes).map(drop);
-            count.add(&word, &bytes, &format!("{} {what}", shape.1), found);
+        for (what, bytes) in [("index", &index), ("damaged index", &damaged)] {
+            let found = compare_all(&lent::READ, &mut noise, bytes).map(drop);
+            count.add(&word, bytes, &format!("{} {what}", shape.1), found);
         }
+
+        // A question costs about one build.
+        let (each, in_a_row) = match pairs.len() {
+            0..=80 => (14, 14),
+            81..=400 => (8, 6),
+            _ => (3, 2),
+        };
+        let asking = Asking::of(&index);
+        let mut draw = |number| (0..number).map(|_| asking.draw(&mut random)).collect();
+        let (of_index, of_damaged) = ([draw(each), draw(in_a_row)], [draw(each / 3), draw(1)]);
+        count.ask(&mut noise, &word, shape.1, &index, of_index);
+        let what = format!("{} damaged index", shape.1);
+        count.ask(&mut noise, &word, &what, &damaged, of_damaged);
     }
 }
 
 /// The comparison itself: it must find each fault planted in a call.
 fn planted_faults(count: &mut Count) {
-    for (name, found) in planted::found() {
+    for (name, found) in { planted::found().into_iter() }.chain(planted_questions::found()) {
         if found {
             count.passed += 1;
         } else {
@@ -154,25 +199,51 @@ fn as_said(limit: &limits::Limit, index: Option<Vec<u8>>) -> Result<(), String> 
     }
 }
 
+/// Questions whose answers are known without the reference.
+fn known_answers(count: &mut Count, only: Option<&str>) {
+    let wanted = |name: &str| only.is_none_or(|only| only == name);
+    for (at, known) in known::all().iter().enumerate() {
+        if !wanted(&known.name) {
+            continue;
+        }
+        let mut noise = Random::new(at as u64);
+        let index = known::index_of(&known.file);
+        let mut asker = Asker::new(terminal::ask, &mut noise, &index);
+        let found = asker.compare_all(&known.question);
+        count.asked.merge(&asker.met);
+        let found = found.and_then(|found| match known.holds(&found) {
+            true => Ok(()),
+            false => Err(format!("{:?}, not the known answer", found.reply)),
+        });
+        let what = format!("asked {:?}", known.question);
+        count.add(&known.name, &index, &what, found);
+    }
+}
+
 fn main() -> ExitCode {
     let mut count = Count::default();
     match std::env::args().nth(1) {
         None => {
             planted_faults(&mut count);
             at_the_limits(&mut count, None);
+            known_answers(&mut count, None);
             (0..SEEDS).for_each(|number| seed(&mut count, number));
             println!(
                 "links files accepted, and refused by 1 to 6: {:?}",
                 count.met
             );
-            if count.met.contains(&0) {
+            let asked = count.asked.show();
+            if count.met.contains(&0) || !asked {
                 count.failed += 1;
-                println!("FAILED: some refusal was never met");
+                println!("FAILED: some refusal or answer was never met");
             }
         }
         Some(word) => match word.parse() {
             Ok(number) => seed(&mut count, number),
-            Err(_) => at_the_limits(&mut count, Some(&word)),
+            Err(_) => {
+                at_the_limits(&mut count, Some(&word));
+                known_answers(&mut count, Some(&word));
+            }
         },
     }
     println!("{} passed, {} failed", count.passed, count.failed);

@@ -6,7 +6,7 @@ use reference::random::Random;
 use terminal::{fe_build, Call, Reply};
 
 /// Flips a bit of a byte that is not the call's to change.
-unsafe fn flip(byte: *const u8) {
+pub unsafe fn flip(byte: *const u8) {
     *byte.cast_mut() ^= 1;
 }
 

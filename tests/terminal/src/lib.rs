@@ -15,6 +15,66 @@ pub type Call = unsafe extern "C" fn(*const u8, usize, *mut u8, usize) -> Reply;
 extern "C" {
     pub fn fe_build(links: *const u8, links_len: usize, index: *mut u8, index_len: usize) -> Reply;
     pub fn fe_read(index: *const u8, index_len: usize, links: *mut u8, links_len: usize) -> Reply;
+    pub fn fe_strength(
+        index: *const u8,
+        index_len: usize,
+        a: u32,
+        b: u32,
+        desk: *mut u8,
+        desk_len: usize,
+    ) -> Reply;
+    pub fn fe_joined(
+        index: *const u8,
+        index_len: usize,
+        a: u32,
+        b: u32,
+        c: u32,
+        d: u32,
+        desk: *mut u8,
+        desk_len: usize,
+    ) -> Reply;
+    pub fn fe_groups_at(
+        index: *const u8,
+        index_len: usize,
+        accounts: *const u8,
+        accounts_len: usize,
+        k: u32,
+        answer: *mut u8,
+        answer_len: usize,
+        desk: *mut u8,
+        desk_len: usize,
+    ) -> Reply;
+    pub fn fe_strongest_groups(
+        index: *const u8,
+        index_len: usize,
+        accounts: *const u8,
+        accounts_len: usize,
+        answer: *mut u8,
+        answer_len: usize,
+        desk: *mut u8,
+        desk_len: usize,
+    ) -> Reply;
+    pub fn fe_all_groups(
+        index: *const u8,
+        index_len: usize,
+        accounts: *const u8,
+        accounts_len: usize,
+        answer: *mut u8,
+        answer_len: usize,
+        desk: *mut u8,
+        desk_len: usize,
+    ) -> Reply;
+    pub fn fe_group_links(
+        index: *const u8,
+        index_len: usize,
+        a: u32,
+        b: u32,
+        k: u32,
+        answer: *mut u8,
+        answer_len: usize,
+        desk: *mut u8,
+        desk_len: usize,
+    ) -> Reply;
 }
 
 pub fn build(links: &[u8], index: &mut [u8]) -> Reply {
@@ -23,4 +83,69 @@ pub fn build(links: &[u8], index: &mut [u8]) -> Reply {
 
 pub fn read(index: &[u8], links: &mut [u8]) -> Reply {
     unsafe { fe_read(index.as_ptr(), index.len(), links.as_mut_ptr(), links.len()) }
+}
+
+/// A question with its numbers and, in C to E, the accounts as they are lent.
+#[derive(Clone, Debug)]
+pub enum Question {
+    A((u32, u32)),
+    B((u32, u32), (u32, u32)),
+    C(Vec<u8>, u32),
+    D(Vec<u8>),
+    E(Vec<u8>),
+    F((u32, u32), u32),
+}
+
+impl Question {
+    pub fn letter(&self) -> char {
+        match self {
+            Question::A(..) => 'A',
+            Question::B(..) => 'B',
+            Question::C(..) => 'C',
+            Question::D(..) => 'D',
+            Question::E(..) => 'E',
+            Question::F(..) => 'F',
+        }
+    }
+
+    /// The accounts that are lent; none in A, B and F.
+    pub fn accounts(&self) -> &[u8] {
+        match self {
+            Question::C(accounts, _) | Question::D(accounts) | Question::E(accounts) => accounts,
+            _ => &[],
+        }
+    }
+}
+
+/// A slice as C is lent it: where it begins and how long it is.
+pub type Slice = (*mut u8, usize);
+
+/// What a question is lent. A, B and F take no accounts, A and B no answer.
+#[derive(Clone, Copy)]
+pub struct Slices {
+    pub index: Slice,
+    pub accounts: Slice,
+    pub answer: Slice,
+    pub desk: Slice,
+}
+
+/// Puts the question by the call that is its own. The accounts are those lent, not those of the question.
+///
+/// # Safety
+/// Each slice is good memory; `answer` and `desk` may be written.
+pub unsafe fn ask(question: &Question, lent: &Slices) -> Reply {
+    let Slices {
+        index: (i, m),
+        accounts: (v, n),
+        answer: (o, r),
+        desk: (t, s),
+    } = *lent;
+    match *question {
+        Question::A((a, b)) => fe_strength(i, m, a, b, t, s),
+        Question::B((a, b), (c, d)) => fe_joined(i, m, a, b, c, d, t, s),
+        Question::C(_, k) => fe_groups_at(i, m, v, n, k, o, r, t, s),
+        Question::D(_) => fe_strongest_groups(i, m, v, n, o, r, t, s),
+        Question::E(_) => fe_all_groups(i, m, v, n, o, r, t, s),
+        Question::F((a, b), k) => fe_group_links(i, m, a, b, k, o, r, t, s),
+    }
 }

@@ -1,0 +1,361 @@
+//! Questions with the answers that document 01 gives, or that follow from its definitions on cards made for them.
+
+use crate::asked::Found;
+use crate::limits::{all_pairs, flat, CARD_A};
+use reference::card::{links_file, Card};
+use reference::fast;
+use reference::records::two;
+use terminal::Question::{self, A, B, C, D, E, F};
+
+/// What a question gives.
+pub enum Said {
+    /// The value of A and B.
+    Value(u32),
+    /// The numbers of C to F.
+    Numbers(Vec<u16>),
+    Refused(u32),
+}
+
+/// A card and a question on it.
+pub struct Known {
+    pub name: String,
+    pub file: Vec<u8>,
+    pub question: Question,
+    pub said: Said,
+}
+
+impl Known {
+    pub fn holds(&self, found: &Found) -> bool {
+        let (refusal, value) = (found.reply.refusal, found.reply.value);
+        let mut numbers = found.answer.chunks(2).map(|field| two(field, 0));
+        match &self.said {
+            Said::Value(said) => (refusal, value) == (0, *said),
+            Said::Refused(number) => (refusal, value) == (*number, 0),
+            Said::Numbers(said) => {
+                let count = numbers.next().map(usize::from);
+                refusal == 0 && count == Some(said.len()) && numbers.eq(said.iter().copied())
+            }
+        }
+    }
+}
+
+fn named(accounts: &[u16]) -> Vec<u8> {
+    accounts.iter().flat_map(|a| a.to_be_bytes()).collect()
+}
+
+fn values(rows: Vec<(Question, u32)>) -> Vec<(Question, Said)> {
+    let said = |(question, value)| (question, Said::Value(value));
+    rows.into_iter().map(said).collect()
+}
+
+fn numbers(rows: Vec<(Question, Vec<u16>)>) -> Vec<(Question, Said)> {
+    let said = |(question, numbers)| (question, Said::Numbers(numbers));
+    rows.into_iter().map(said).collect()
+}
+
+fn refused(rows: Vec<(Question, u32)>) -> Vec<(Question, Said)> {
+    let said = |(question, number)| (question, Said::Refused(number));
+    rows.into_iter().map(said).collect()
+}
+
+/// The index of a good links file, by the reference.
+pub fn index_of(file: &[u8]) -> Vec<u8> {
+    let card = Card::read(file).expect("a good links file");
+    fast::index(&card).to_bytes()
+}
+
+pub fn card_b() -> Vec<(u16, u16)> {
+    let mut b = [all_pairs(0..4), all_pairs(3..7)].concat();
+    b.push((2, 4));
+    b
+}
+
+/// All pairs of so many accounts, and for each lower strength down to 3 one account more with so many links less one: each group lies in the next. The links, in
+/// order, with their strengths.
+fn nest(first: u16) -> Vec<((u16, u16), u16)> {
+    let whole = all_pairs(0..first).into_iter().map(|pair| (pair, first));
+    let more = (3..first).flat_map(|strength| {
+        let account = 2 * first - 1 - strength;
+        (0..strength - 1).map(move |a| ((a, account), strength))
+    });
+    let mut links: Vec<_> = whole.chain(more).collect();
+    links.sort();
+    links
+}
+
+pub fn all() -> Vec<Known> {
+    let mut all = Vec::new();
+    let mut add = |card: &str, file: Vec<u8>, rows: Vec<Vec<(Question, Said)>>| {
+        for (at, (question, said)) in rows.into_iter().flatten().enumerate() {
+            all.push(Known {
+                name: format!("{card}-question-{at}"),
+                file: file.clone(),
+                question,
+                said,
+            });
+        }
+    };
+    let at = |accounts: &[u16], k| C(named(accounts), k);
+    let strongest = |accounts: &[u16]| D(named(accounts));
+    let every = |accounts: &[u16]| E(named(accounts));
+
+    add(
+        "one-account",
+        links_file(1, &[]),
+        vec![
+            numbers(vec![
+                (at(&[0], 3), vec![]),
+                (strongest(&[0]), vec![]),
+                (every(&[0; 16]), vec![]),
+            ]),
+            refused(vec![
+                (A((0, 0)), 11),
+                (A((0, 1)), 9),
+                (B((0, 0), (0, 0)), 11),
+                (every(&[1]), 9),
+                (F((0, 0), 3), 11),
+                (F((0, 0), 2), 10),
+                (F((1, 0), 2), 9),
+            ]),
+        ],
+    );
+    add(
+        "card-a",
+        links_file(5, &CARD_A),
+        vec![
+            values(vec![
+                (A((1, 2)), 3),
+                (A((2, 1)), 3),
+                (A((3, 4)), 2),
+                (A((4, 3)), 2),
+                (B((3, 4), (3, 4)), 0),
+                (B((3, 4), (4, 3)), 0),
+                (B((1, 2), (2, 1)), 3),
+                (B((0, 1), (2, 3)), 3),
+                (B((2, 3), (3, 4)), 0),
+            ]),
+            numbers(vec![
+                (at(&[0, 3], 3), vec![0]),
+                (at(&[0], 4), vec![]),
+                (at(&[4], 3), vec![]),
+                (every(&[3, 4]), vec![]),
+                (F((3, 2), 3), vec![0, 1, 2, 3, 4]),
+                (F((3, 4), 3), vec![]),
+            ]),
+            refused(vec![
+                (A((0, 4)), 11),
+                (A((3, 3)), 11),
+                (A((5, 5)), 9),
+                (A((0, 0x1_0001)), 9),
+                (B((0, 4), (0, 5)), 9),
+                (B((0, 1), (0, 3)), 11),
+                (B((0, 3), (0, 1)), 11),
+                (C(vec![], 2), 8),
+                (C(vec![0], 2), 8),
+                (C(vec![0xFF; 3], 2), 8),
+                (C(vec![0; 34], 2), 8),
+                (C(vec![0; 0x1_0002], 3), 8),
+                (D(vec![0xFF; 34]), 8),
+                (E(vec![0; 31]), 8),
+                (at(&[0, 5], 2), 9),
+                (at(&[0x100], 3), 9),
+                (every(&[0xFFFF]), 9),
+                (at(&[0], 2), 10),
+                (at(&[0], 65), 10),
+                (at(&[0], 0x1_0003), 10),
+                (at(&[0], u32::MAX), 10),
+                (F((0, 5), 2), 9),
+                (F((0, 4), 2), 10),
+                (F((0, 1), 0x103), 10),
+                (F((0, 1), 0x8000_0003), 10),
+                (F((0, 4), 3), 11),
+            ]),
+        ],
+    );
+    add(
+        "card-b",
+        links_file(7, &card_b()),
+        vec![
+            values(vec![
+                (A((2, 3)), 4),
+                (A((2, 4)), 3),
+                (B((2, 3), (3, 4)), 3),
+                (B((3, 4), (3, 2)), 3),
+                (B((0, 1), (2, 3)), 4),
+                (B((0, 1), (5, 6)), 3),
+                (B((2, 4), (2, 4)), 3),
+            ]),
+            numbers(vec![
+                (at(&[3], 4), vec![0, 1]),
+                (at(&[3; 16], 4), vec![0, 1]),
+                (at(&[2, 4], 4), vec![]),
+                (at(&[2, 4], 3), vec![2]),
+                (at(&[3], 3), vec![2]),
+                (at(&[3], 5), vec![]),
+                (strongest(&[3]), vec![0, 1]),
+                (strongest(&[2]), vec![0]),
+                (strongest(&[2, 4]), vec![2]),
+                (every(&[3]), vec![0, 1, 2]),
+                (every(&[4, 3]), vec![1, 2]),
+                (every(&[6, 0]), vec![2]),
+                (F((0, 1), 4), (0..6).collect()),
+                (F((5, 6), 4), (7..13).collect()),
+                (F((6, 5), 3), (0..13).collect()),
+                (F((2, 4), 3), (0..13).collect()),
+                (F((2, 4), 4), vec![]),
+                (F((0, 1), 64), vec![]),
+            ]),
+        ],
+    );
+    add(
+        "two-triangles",
+        links_file(5, &[(0, 1), (0, 2), (1, 2), (2, 3), (2, 4), (3, 4)]),
+        vec![
+            values(vec![(B((0, 2), (2, 3)), 0), (B((0, 1), (1, 2)), 3)]),
+            numbers(vec![
+                (at(&[2], 3), vec![0, 1]),
+                (strongest(&[2]), vec![0, 1]),
+                (every(&[2]), vec![0, 1]),
+                (every(&[2, 3]), vec![1]),
+                (every(&[1, 3]), vec![]),
+                (strongest(&[1, 3]), vec![]),
+                (F((1, 2), 3), vec![0, 1, 2]),
+            ]),
+        ],
+    );
+    let mut four_and_triangle = all_pairs(0..4);
+    four_and_triangle.extend(all_pairs(3..6));
+    add(
+        "four-and-triangle",
+        links_file(6, &four_and_triangle),
+        vec![
+            values(vec![(B((2, 3), (3, 4)), 0), (A((3, 4)), 3)]),
+            numbers(vec![
+                (at(&[3], 3), vec![0, 1]),
+                (at(&[3], 4), vec![0]),
+                (strongest(&[3]), vec![0]),
+                (strongest(&[5, 3]), vec![1]),
+                (every(&[3]), vec![0, 1]),
+            ]),
+        ],
+    );
+    add(
+        "all-pairs-of-five",
+        links_file(5, &all_pairs(0..5)),
+        vec![
+            values(vec![(A((0, 4)), 5), (B((0, 1), (3, 4)), 5)]),
+            numbers(vec![
+                (at(&[0], 3), vec![0]),
+                (at(&[0, 1, 2, 3, 4], 4), vec![0]),
+                (at(&[2], 5), vec![0]),
+                (at(&[2], 6), vec![]),
+                (every(&[4, 4]), vec![0]),
+                (F((0, 1), 3), (0..10).collect()),
+                (F((0, 1), 5), (0..10).collect()),
+                (F((0, 1), 6), vec![]),
+            ]),
+        ],
+    );
+    add(
+        "all-pairs-of-64",
+        links_file(64, &all_pairs(0..64)),
+        vec![
+            values(vec![(A((0, 63)), 64), (B((0, 1), (62, 63)), 64)]),
+            numbers(vec![
+                (at(&[63], 3), vec![0]),
+                (at(&[63], 64), vec![0]),
+                (F((62, 63), 3), (0..2_016).collect()),
+                (F((0, 1), 64), (0..2_016).collect()),
+            ]),
+            refused(vec![
+                (at(&[63], 2), 10),
+                (at(&[63], 65), 10),
+                (F((0, 1), 2), 10),
+                (F((0, 1), 65), 10),
+                (every(&[64]), 9),
+            ]),
+        ],
+    );
+    add(
+        "no-triangle",
+        links_file(96, &flat(2_048)),
+        vec![
+            values(vec![
+                (A((31, 95)), 2),
+                (B((31, 95), (31, 95)), 0),
+                (B((0, 32), (0, 33)), 0),
+            ]),
+            numbers(vec![
+                (at(&[0], 3), vec![]),
+                (strongest(&[0]), vec![]),
+                (every(&[0, 32]), vec![]),
+                (F((0, 32), 3), vec![]),
+            ]),
+        ],
+    );
+    // 511 triangles with an account in common, and no more: as many groups, by the least link.
+    let spread: Vec<_> = (0..511)
+        .flat_map(|i| {
+            all_pairs(2 * i + 1..2 * i + 3)
+                .into_iter()
+                .chain([(0, 2 * i + 1), (0, 2 * i + 2)])
+        })
+        .collect();
+    add(
+        "triangles-with-one-account",
+        links_file(1_024, &spread),
+        vec![numbers(vec![
+            (at(&[0], 3), (0..511).collect()),
+            (strongest(&[0]), (0..511).collect()),
+            (every(&[0; 16]), (0..511).collect()),
+            (every(&[0, 1_022]), vec![510]),
+            (every(&[1, 3]), vec![]),
+            (every(&[1_023]), vec![]),
+        ])],
+    );
+    // A strip of triangles, each sharing a link with the next, has 2,045 links; three more each make all pairs of four accounts.
+    let mut strip: Vec<_> = (0..1_023).map(|a| (a, a + 1)).collect();
+    strip.extend((0..1_022).map(|a| (a, a + 2)));
+    strip.extend([(0, 3), (500, 503), (1_020, 1_023)]);
+    add(
+        "longest-answer",
+        links_file(1_024, &strip),
+        vec![
+            values(vec![(B((0, 1), (1_022, 1_023)), 3), (A((0, 3)), 4)]),
+            numbers(vec![
+                (F((1_022, 1_023), 3), (0..2_048).collect()),
+                (every(&[0, 1_023]), vec![3]),
+                (strongest(&[500]), vec![1]),
+            ]),
+        ],
+    );
+    let nested = nest(46);
+    let pairs: Vec<_> = nested.iter().map(|&(pair, _)| pair).collect();
+    let mut rows = vec![
+        values(vec![
+            (A((0, 88)), 3),
+            (A((0, 46)), 45),
+            (B((44, 45), (0, 88)), 3),
+            (B((0, 46), (44, 45)), 45),
+            (B((0, 46), (1, 47)), 44),
+        ]),
+        numbers(vec![
+            (every(&[0]), (0..44).collect()),
+            (every(&[45]), (0..44).collect()),
+            (every(&[45, 88, 0]), vec![43]),
+            (strongest(&[45, 0]), vec![0]),
+            (strongest(&[46, 47]), vec![2]),
+        ]),
+    ];
+    for k in 3..=47 {
+        let within = |&at: &u16| nested[usize::from(at)].1 >= k;
+        let links: Vec<u16> = (0..nested.len() as u16).filter(within).collect();
+        let group: Vec<u16> = (k <= 46).then(|| 46 - k).into_iter().collect();
+        rows.push(numbers(vec![
+            (at(&[7], k.into()), group),
+            (F((44, 45), k.into()), links),
+        ]));
+    }
+    add("nest", links_file(89, &pairs), rows);
+    all
+}
