@@ -1,0 +1,124 @@
+/* A host of the terminal: builds the index of card B of document 01, asks every question on it, and meets every refusal. After `rt staticlib terminal`:
+ *
+ *     gcc -std=c11 -O2 -Wall -Wextra -Werror -pedantic -Iinclude examples/host/host.c target/staticlib/libterminal.a -o target/host && target/host
+ *
+ * It prints what stands in the file stdout beside it. */
+#include "footballelm.h"
+
+#include <stdio.h>
+#include <string.h>
+
+/* The links file: 7 accounts, 13 links; all pairs of 0, 1, 2, 3, all pairs of 3, 4, 5, 6, and 2-4. */
+static const uint8_t CARD[] = {
+    1, 0, 7, 0, 13,
+    6, 0, 0, 0, 1,  6, 0, 0, 0, 2,  6, 0, 0, 0, 3,  6, 0, 1, 0, 2,  6, 0, 1, 0, 3,  6, 0, 2, 0, 3,
+    6, 0, 3, 0, 4,  6, 0, 3, 0, 5,  6, 0, 3, 0, 6,  6, 0, 4, 0, 5,  6, 0, 4, 0, 6,  6, 0, 5, 0, 6,
+    6, 0, 2, 0, 4,
+    5,
+};
+
+/* Accounts as questions name them, two bytes each. */
+static const uint8_t THREE[] = {0, 3}, TWO_AND_FOUR[] = {0, 2, 0, 4}, SEVEN[] = {0, 7};
+
+static uint8_t index_bytes[FE_INDEX_MAX], answer[FE_ANSWER_MAX], desk[FE_DESK];
+
+/* Who can put a refusal right, and its reason. */
+static const char *const WHY[13][2] = {
+    {"", ""},
+    {"filer of links", "an unknown or misplaced kind, a cut record, or bytes after the end"},
+    {"filer of links", "the number of accounts is 0 or above 1,024"},
+    {"filer of links", "the number of links is above 2,048"},
+    {"filer of links", "an account is not below the number of accounts"},
+    {"filer of links", "both accounts are the same"},
+    {"filer of links", "the pair came earlier"},
+    {"holder of the index", "the bytes are not the index of any links file"},
+    {"window", "no account is named, over 16 are, or the byte length is odd"},
+    {"window", "an account is not below the number of accounts"},
+    {"window", "k is below 3 or above 64"},
+    {"window", "the pair is no link"},
+    {"host", "the result is longer than the buffer lent for it, or the desk record is below four bytes"},
+};
+
+static unsigned two(const uint8_t *at) { return at[0] * 256u + at[1]; }
+
+static void refused(fe_reply r) {
+    printf("Refused %u", r.refusal);
+    if (r.refusal <= 6) printf(" at byte %u", r.value);
+    printf(", for the %s: %s.\n", WHY[r.refusal][0], WHY[r.refusal][1]);
+}
+
+/* The answer of A and B: a number. */
+static void number(const char *text, fe_reply r) {
+    if (r.refusal) refused(r);
+    else printf("%s: %u.\n", text, r.value);
+}
+
+/* The answer of C to F: numbers of groups or of links. Link i is the record at 5 + 8 * i in the index, with its two accounts after the first byte. */
+static void list(const char *text, fe_reply r, int links) {
+    if (r.refusal) {
+        refused(r);
+        return;
+    }
+    printf("%s:%s", text, two(answer) ? "" : " none");
+    for (unsigned i = 1; i <= two(answer); i++) {
+        unsigned it = two(answer + 2 * i);
+        const uint8_t *record = index_bytes + 5 + 8 * it;
+        if (links) printf(" %u-%u", two(record + 1), two(record + 3));
+        else printf(" %u", it);
+    }
+    printf(".\n");
+}
+
+/* The card built with one byte changed. */
+static fe_reply build_changed(size_t at, uint8_t byte) {
+    uint8_t card[sizeof CARD], other[FE_INDEX_MAX];
+    memcpy(card, CARD, sizeof card);
+    card[at] = byte;
+    return fe_build(card, sizeof card, other, sizeof other);
+}
+
+static void tally(void) { printf("Questions answered: %lu.\n", two(desk) * 65536ul + two(desk + 2)); }
+
+int main(void) {
+    fe_reply r = fe_build(CARD, sizeof CARD, index_bytes, sizeof index_bytes);
+    if (r.refusal) {
+        refused(r);
+        return 1;
+    }
+    size_t length = r.value;
+    printf("Card B: %u accounts, %u links, an index of %zu bytes.\n", two(index_bytes + 1), two(index_bytes + 3), length);
+
+    number("Strength of 2-3", fe_strength(index_bytes, length, 2, 3, desk, sizeof desk));
+    number("Strength of 4-2", fe_strength(index_bytes, length, 4, 2, desk, sizeof desk));
+    number("Greatest k with 2-3 and 3-4 in one group", fe_joined(index_bytes, length, 2, 3, 3, 4, desk, sizeof desk));
+    r = fe_groups_at(index_bytes, length, THREE, sizeof THREE, 4, answer, sizeof answer, desk, sizeof desk);
+    list("Groups at 4 with account 3", r, 0);
+    r = fe_groups_at(index_bytes, length, TWO_AND_FOUR, sizeof TWO_AND_FOUR, 4, answer, sizeof answer, desk, sizeof desk);
+    list("Groups at 4 with accounts 2 and 4", r, 0);
+    r = fe_groups_at(index_bytes, length, TWO_AND_FOUR, sizeof TWO_AND_FOUR, 3, answer, sizeof answer, desk, sizeof desk);
+    list("Groups at 3 with accounts 2 and 4", r, 0);
+    r = fe_strongest_groups(index_bytes, length, THREE, sizeof THREE, answer, sizeof answer, desk, sizeof desk);
+    list("Strongest groups with account 3", r, 0);
+    r = fe_all_groups(index_bytes, length, THREE, sizeof THREE, answer, sizeof answer, desk, sizeof desk);
+    list("All groups with account 3", r, 0);
+    list("Links of the group at 4 with 3-4", fe_group_links(index_bytes, length, 3, 4, 4, answer, sizeof answer, desk, sizeof desk), 1);
+    list("Links of the group at 4 with 2-4", fe_group_links(index_bytes, length, 2, 4, 4, answer, sizeof answer, desk, sizeof desk), 1);
+    tally();
+
+    refused(build_changed(70, 6)); /* another link where the end should be */
+    refused(build_changed(2, 0));  /* no accounts */
+    refused(build_changed(3, 8));  /* 2,061 links */
+    refused(build_changed(9, 7));  /* the first link: 0-7 */
+    refused(build_changed(9, 0));  /* 0-0 */
+    refused(build_changed(14, 1)); /* the second link: 0-1 again */
+    index_bytes[10]--;             /* the strength of the first link */
+    refused(fe_strength(index_bytes, length, 2, 3, desk, sizeof desk));
+    index_bytes[10]++; /* and back */
+    refused(fe_all_groups(index_bytes, length, THREE, 0, answer, sizeof answer, desk, sizeof desk));
+    refused(fe_all_groups(index_bytes, length, SEVEN, sizeof SEVEN, answer, sizeof answer, desk, sizeof desk));
+    refused(fe_group_links(index_bytes, length, 2, 3, 65, answer, sizeof answer, desk, sizeof desk));
+    refused(fe_strength(index_bytes, length, 0, 6, desk, sizeof desk));
+    refused(fe_all_groups(index_bytes, length, THREE, sizeof THREE, answer, 7, desk, sizeof desk)); /* three groups take 8 bytes */
+    tally();
+    return 0;
+}
