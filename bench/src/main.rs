@@ -1,15 +1,20 @@
-//! Times the library's build and reading beside the reference's fast build, from links file to index bytes (and back), in one run: bench CARDS [IGRAPH]
+//! Times the library's build and reading beside the reference's fast build, from links file to index bytes (and back), and the questions beside the library's
+//! build, in one run: bench CARDS [IGRAPH]
 //!
-//! CARDS is a folder of links files, IGRAPH the program made of igraph_truss.c. Prints a table. A time is the least of many turns; the calls take
-//! turns, so that all meet the same machine. igraph computes strengths only: no forest, no groups, no bytes.
+//! CARDS is a folder of links files, IGRAPH the program made of igraph_truss.c. Prints two tables with an empty line between them. A time is the least of many
+//! turns; the calls take turns, so that all meet the same machine. igraph computes strengths only: no forest, no groups, no bytes.
 
+use std::cmp::Reverse;
+use std::collections::BTreeSet;
 use std::hint::black_box;
 use std::path::Path;
 use std::process::Command;
 use std::time::{Duration, Instant};
 
-use reference::limits::MAX_INDEX_BYTES;
+use reference::index::{Index, StrongLink};
+use reference::limits::{MAX_ACCOUNTS, MAX_INDEX_BYTES, MAX_LINKS, MAX_NAMED};
 use reference::records::two;
+use terminal::Question;
 
 const TURNS: usize = 3_000;
 
@@ -35,6 +40,50 @@ fn igraph(program: &str, card: &Path) -> Option<f64> {
     text.trim().split("best_us=").nth(1)?.parse().ok()
 }
 
+/// One question of each kind with much to do. The accounts and the link of F are of the group with the most links, the accounts those with the most links in all.
+fn questions(index: &Index) -> [Question; 6] {
+    let held_by = |link: &StrongLink| index.climb(link.group).collect::<BTreeSet<_>>();
+    let ends = |link: &StrongLink| (link.lower.into(), link.higher.into());
+    let links: &[StrongLink] = &index.links;
+    let last = links.last().expect("a card with a link");
+
+    let deepest = links.iter().max_by_key(|link| held_by(link).len());
+    let deepest = deepest.unwrap_or(last);
+    let above = held_by(deepest);
+    let way = |link: &&StrongLink| above.symmetric_difference(&held_by(link)).count();
+    let farthest = links.iter().max_by_key(way).unwrap_or(last);
+
+    let mut sizes = vec![0; index.groups.len()];
+    for group in links.iter().flat_map(held_by) {
+        sizes[usize::from(group)] += 1;
+    }
+    let largest = (0..).zip(sizes).max_by_key(|&(_, links)| links);
+    let (largest, _) = largest.expect("a card with a group");
+    let in_largest = links.iter().filter(|link| held_by(link).contains(&largest));
+    let of_largest = in_largest.clone().next_back().unwrap_or(last);
+
+    let mut links_at = [0; MAX_ACCOUNTS as usize];
+    for link in links {
+        links_at[usize::from(link.lower)] += 1;
+        links_at[usize::from(link.higher)] += 1;
+    }
+    let accounts = in_largest.flat_map(|link| [link.lower, link.higher]);
+    let accounts: BTreeSet<u16> = accounts.collect();
+    let mut accounts: Vec<u16> = accounts.into_iter().collect();
+    accounts.sort_by_key(|&account| Reverse(links_at[usize::from(account)]));
+    let named = accounts.iter().cycle().take(MAX_NAMED);
+    let named: Vec<u8> = named.flat_map(|account| account.to_be_bytes()).collect();
+
+    [
+        Question::A(ends(last)),
+        Question::B(ends(deepest), ends(farthest)),
+        Question::C(named.clone(), 3),
+        Question::D(named.clone()),
+        Question::E(named),
+        Question::F(ends(of_largest), 3),
+    ]
+}
+
 fn main() {
     let mut words = std::env::args().skip(1);
     let folder = words.next().expect("a folder of links files");
@@ -45,6 +94,7 @@ fn main() {
 
     println!("| card | accounts | links | greatest strength | build, us | read, us | reference's build, us | build / reference | read / reference | igraph strengths, us |");
     println!("|---|---|---|---|---|---|---|---|---|---|");
+    let mut asked = String::new();
     for card in &cards {
         let file = std::fs::read(card).expect("a links file");
         let (mut ours, mut theirs) = ([0; MAX_INDEX_BYTES], [0; MAX_INDEX_BYTES]);
@@ -59,20 +109,34 @@ fn main() {
 
         let index = &ours[..reply.value as usize].to_vec();
         let mut back = [0; MAX_INDEX_BYTES];
-        assert!(terminal::read(index, &mut back).refusal == 0, "an index is refused");
+        assert!(
+            terminal::read(index, &mut back).refusal == 0,
+            "an index is refused"
+        );
+
+        let questions = questions(&Index::read(index).expect("an index"));
+        let (mut answer, mut desk) = ([0; 2 + 2 * MAX_LINKS as usize], [0; 4]);
+        for question in &questions {
+            let reply = terminal::put(question, index, &mut answer, &mut desk);
+            assert!(reply.refusal == 0, "a question is refused");
+        }
 
         let mut library = Least(Duration::MAX);
         let mut reading = Least(Duration::MAX);
         let mut reference = Least(Duration::MAX);
+        let mut asking = [const { Least(Duration::MAX) }; 6];
         for _ in 0..TURNS {
             library.time(|| terminal::build(black_box(&file), &mut ours));
             reading.time(|| terminal::read(black_box(index), &mut back));
             reference.time(|| reference::fast::build(black_box(&file), &mut theirs));
+            for (question, least) in questions.iter().zip(&mut asking) {
+                least.time(|| terminal::put(black_box(question), index, &mut answer, &mut desk));
+            }
         }
         let igraph = peer.as_deref().and_then(|program| igraph(program, card));
+        let name = card.file_stem().unwrap_or_default().to_string_lossy();
         println!(
-            "| {} | {} | {links} | {} | {:.1} | {:.1} | {:.1} | {:.2} | {:.2} | {} |",
-            card.file_stem().unwrap_or_default().to_string_lossy(),
+            "| {name} | {} | {links} | {} | {:.1} | {:.1} | {:.1} | {:.2} | {:.2} | {} |",
             two(&file, 1),
             greatest.unwrap_or(0),
             library.micros(),
@@ -82,5 +146,11 @@ fn main() {
             reading.micros() / reference.micros(),
             igraph.map_or("-".to_string(), |time| format!("{time:.1}")),
         );
+        asked += &format!("\n| {name} |");
+        for least in &asking {
+            asked += &format!(" {:.2} |", least.micros() / library.micros());
+        }
     }
+    println!("\n| card | A / build | B / build | C / build | D / build | E / build | F / build |");
+    println!("|---|---|---|---|---|---|---|{asked}");
 }

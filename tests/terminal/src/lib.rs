@@ -149,3 +149,15 @@ pub unsafe fn ask(question: &Question, lent: &Slices) -> Reply {
         Question::F((a, b), k) => fe_group_links(i, m, a, b, k, o, r, t, s),
     }
 }
+
+/// Puts the question with its own accounts.
+pub fn put(question: &Question, index: &[u8], answer: &mut [u8], desk: &mut [u8]) -> Reply {
+    let accounts = question.accounts();
+    let lent = Slices {
+        index: (index.as_ptr().cast_mut(), index.len()),
+        accounts: (accounts.as_ptr().cast_mut(), accounts.len()),
+        answer: (answer.as_mut_ptr(), answer.len()),
+        desk: (desk.as_mut_ptr(), desk.len()),
+    };
+    unsafe { ask(question, &lent) }
+}
