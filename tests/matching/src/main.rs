@@ -1,5 +1,5 @@
 //! Matches the library's C calls against the reference, an independent program: build and reading on random, shuffled and damaged files and on files at the
-//! limits, random questions on the random indexes, good and damaged, and questions with known answers.
+//! limits, random questions on the random indexes, good and damaged, and questions with known answers; and the lister's text.
 //!
 //! With no word: all of it. With a number: the files and questions of that seed. With a name: that file at the limits, or that known answer.
 //! The last line is `N passed, M failed`, one for each file and question compared and for each planted fault that the comparison must find.
@@ -8,6 +8,7 @@ mod asked;
 mod known;
 mod lent;
 mod limits;
+mod listing;
 mod planted;
 mod planted_questions;
 mod questions;
@@ -26,6 +27,9 @@ use terminal::Question;
 
 /// Each seed makes a card, a shuffled copy of it and two damaged ones, and reads its index and a damaged one, and asks questions on both.
 const SEEDS: u64 = 6_000;
+
+/// One seed in so many has its indexes listed: that runs a program.
+const LISTED: u64 = 11;
 
 /// So many failures show the file's bytes; the others can be repeated.
 const SHOWN: usize = 5;
@@ -128,6 +132,10 @@ fn seed(count: &mut Count, seed: u64) {
         for (what, bytes) in [("index", &index), ("damaged index", &damaged)] {
             let found = compare_all(&lent::READ, &mut noise, bytes).map(drop);
             count.add(&word, bytes, &format!("{} {what}", shape.1), found);
+            if seed % LISTED == 0 {
+                let found = listing::compare(bytes);
+                count.add(&word, bytes, &format!("{} {what} listed", shape.1), found);
+            }
         }
 
         // A question costs about one build.

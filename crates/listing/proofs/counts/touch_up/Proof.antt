@@ -1,0 +1,58 @@
+use native.Mathlib.Omega.{arith}
+use mathlib.Core.Path.{_≡_, refl, sym, ap, _∙_}
+use Prim.Native.Nat.{ℕ, _-_, _≤_}
+use Rattle.listing.specs.Touching.{UpState, up-none, up-few, up-in, up-count, up-falls, up-more, up-done}
+use Rattle.listing.proofs.counts.touch_up.Statement.{statement}
+use Rattle.listing.proofs.counts.touch_up.Tie as tie
+use Rattle.listing.proofs.counts.touch_up.Reads as reads
+use Rattle.listing.proofs.counts.touch_up.Lts as lts
+use Rattle.listing.proofs.counts.touch.Reads as touch-reads
+use Rattle.stored.proofs.rows.group_parent.Reads as group-parent-reads
+
+abbrev Inv-loop : tie.InvT-loop
+Inv-loop s at w₀ m count c g r x₀ w x = UpState s m count c g r x w₀ w
+
+abbrev μ-loop : tie.MeasureT-loop
+μ-loop s at w₀ m count c g r x₀ w x = count - x
+
+-- src/counts.rt:69:5
+loop-holds : tie.Need-loop-holds Inv-loop μ-loop
+loop-holds c = up-none (c .before .before .pre .0) (c .before .before .pre .1 .0)
+
+-- src/counts.rt:70:9
+touch-requires : tie.Need-touch-requires Inv-loop μ-loop
+touch-requires c κs = let l = up-in (c .before .before .before .before .before .pre .0) (c .before .before .loop .inv) (c .before .loop-test .taken) in (c .before .before .loop .inv .both .length-is ∙ c .before .before .before .before .before .pre .1 .1 .0, (up-few (c .before .before .before .before .before .pre .0) .0, (omega (arith, l, up-few (c .before .before .before .before .before .pre .0) .0), (c .before .before .before .before .before .pre .0 .counter .0, (c .before .before .before .before .before .pre .0 .counter .1, (c .before .before .before .before .before .pre .1 .1 .1 .1, omega (arith, up-count (c .before .before .before .before .before .pre .0) (c .before .before .loop .inv) (c .before .loop-test .taken), c .before .before .before .before .before .pre .1 .1 .1 .0 (c .before .before .loop .x) l)))))))
+
+-- src/counts.rt:71:9
+group-parent-requires : tie.Need-group-parent-requires Inv-loop μ-loop
+group-parent-requires c κs = (c .before .before .before .before .before .before .before .before .pre .0 .groups-at, omega (arith, up-in (c .before .before .before .before .before .before .before .before .pre .0) (c .before .before .before .before .before .loop .inv) (c .before .before .before .before .loop-test .taken), c .before .before .before .before .before .before .before .before .pre .0 .groups))
+
+-- src/counts.rt:69:5
+loop-less : tie.Need-loop-less Inv-loop μ-loop
+loop-less c = up-falls (c .before .before .before .before .before .before .before .before .before .pre .0) (c .before .before .before .before .before .before .loop .inv) (c .before .before .before .before .before .loop-test .taken) (c .group-parent .ensures)
+
+-- src/counts.rt:69:5
+loop-again : tie.Need-loop-again Inv-loop μ-loop
+loop-again c = up-more (c .before .before .before .before .before .before .before .before .before .pre .0) (c .before .before .before .before .before .before .loop .inv) (c .before .before .before .before .before .loop-test .taken) (c .group-parent .ensures) (c .before .before .before .touch .ensures)
+
+-- src/counts.rt:60:1
+same-length : tie.Need-same-length Inv-loop μ-loop
+same-length c = c .before .loop .inv .both .length-is
+
+-- src/counts.rt:60:1
+returns : tie.Need-returns Inv-loop μ-loop
+returns c = up-done (c .before .before .before .before .pre .0) (c .before .loop .inv) (c .loop-test .left)
+
+pub touch-up-spec : {M : Type 1} → statement M
+touch-up-spec =
+    tie.close
+    (tie.spec
+    Inv-loop
+    μ-loop
+    loop-holds
+    touch-requires
+    group-parent-requires
+    loop-less
+    loop-again
+    same-length
+    returns)

@@ -1,0 +1,245 @@
+-- A round of touches: a group is counted once in a round, at its first touch. Column 3 has the last round that touched it. Assumes nothing.
+use mathlib.Core.Path.{_≡_, refl, sym, ap, ap₂, _∙_, subst}
+use mathlib.Core.Logic.{_⊎_, inl, inr, _≢_}
+use mathlib.Core.Bool.{Bool, true, false, cond}
+use mathlib.Core.List.{List}
+use mathlib.Core.List.{List·Memᴰ as In}
+use Prim.Native.Nat.{ℕ, _+_, _*_, _-_, _≤_, _<_}
+use native.Mathlib.Omega.{arith}
+use lib.Dec.{eqb}
+use lib.ListN.{length}
+use borrow.Author.Tests.{eq-eqb, ne-eqb}
+use Rattle.truss.specs.Limits.{minLevel, noGroup}
+use Rattle.truss.specs.Index.{index}
+use Rattle.truss.specs.Stored.{Leads}
+use Rattle.truss.specs.Stored.{here as arrived}
+use Rattle.laws.proofs.Numbers.{same-or-not, less-or-not}
+use Rattle.laws.proofs.Groups.{size, strengthAt}
+use Rattle.laws.proofs.Stored.{groupCount, stored}
+use Rattle.laws.proofs.Tree.{parent-rises, group-rows-length}
+use Rattle.columns.specs.Columns.{cell, store, COLUMNS}
+use Rattle.columns.specs.Laws.{Upd, Same, upd-store, same-store, length-store, kept-column}
+use Rattle.stored.specs.Rows.{graphIn, IsIndex, GroupsAt, ownGroup, parentOf, proper, fits-groups, few, few-links, parent-cases, own-cases}
+use Rattle.listing.specs.Paths.{starts, rising, from-none, onward, step-up, in-leads, leads-in}
+
+-- what the walk up asks of index and columns: c is the column that counts
+pub record UpGiven (b : List ℕ) (at m count c : ℕ) : Type 0 where
+  pub groups-at : GroupsAt b at
+  pub links : size (graphIn b) ≡ m
+  pub groups : groupCount (graphIn b) ≡ count
+  pub counter : (3 < c) × (c < 16)
+
+pub up-few : {b : List ℕ} {at m count c : ℕ} → UpGiven b at m count c → (count ≤ m) × (m ≤ 2048)
+up-few A = (omega (arith, few (A .groups-at .is-index), A .links, A .groups), omega (arith, few-links (A .groups-at .is-index), A .links))
+
+-- one more, if the last round was another
+abbrev pub bump : ℕ → ℕ → ℕ → ℕ
+bump last r x = cond (eqb last r) x (x + 1)
+
+pub bump-again : {last r : ℕ} (x : ℕ) → last ≡ r → bump last r x ≡ x
+bump-again {last} {r} x q = rw (eq-eqb last r q) refl
+
+pub bump-first : {last r : ℕ} (x : ℕ) → last ≢ r → bump last r x ≡ x + 1
+bump-first {last} {r} x n = rw (ne-eqb last r n) refl
+
+-- group h is touched, is not
+pub record Touched (m c r h : ℕ) (w w′ : List ℕ) : Type 0 where
+  pub stamp : cell w′ m 3 h ≡ r
+  pub counted : cell w′ m c h ≡ bump (cell w m 3 h) r (cell w m c h)
+
+pub record Left (m c h : ℕ) (w w′ : List ℕ) : Type 0 where
+  pub stamp : cell w′ m 3 h ≡ cell w m 3 h
+  pub counted : cell w′ m c h ≡ cell w m c h
+
+pub left-none : {m c h : ℕ} {w : List ℕ} → Left m c h w w
+left-none = record { stamp = refl; counted = refl }
+
+-- columns other than 3 and c, and the length
+pub record Both (m c : ℕ) (w w′ : List ℕ) : Type 0 where
+  pub length-is : length w′ ≡ length w
+  pub others : (d y : ℕ) → d ≢ 3 → d ≢ c → y < m → cell w′ m d y ≡ cell w m d y
+
+pub both-none : {m c : ℕ} {w : List ℕ} → Both m c w w
+both-none = record { length-is = refl; others = λ d y n k l. refl }
+
+pub both-then : {m c : ℕ} {w w₁ w₂ : List ℕ} → Both m c w w₁ → Both m c w₁ w₂ → Both m c w w₂
+both-then p q = record { length-is = q .length-is ∙ p .length-is; others = λ d y n k l. q .others d y n k l ∙ p .others d y n k l }
+
+-- ---- one group
+
+pub record TouchOne (m count c x r : ℕ) (w w′ : List ℕ) : Type 0 where
+  pub both : Both m c w w′
+  pub here : Touched m c r x w w′
+  pub else : (h : ℕ) → h < count → h ≢ x → Left m c h w w′
+
+pub touch-again : {m count c x r y : ℕ} {w : List ℕ} → y ≡ cell w m 3 x → y ≡ r → TouchOne m count c x r w w
+touch-again {m} {count} {c} {x} {r} {y} {w} q e = record {
+  both = both-none;
+  here = record { stamp = sym q ∙ e; counted = sym (bump-again (cell w m c x) (sym q ∙ e)) };
+  else = λ h l n. left-none;
+}
+
+pub touch-first : {m count c x r y z : ℕ} {w w₁ w₂ : List ℕ} → length w ≡ 16 * m → count ≤ m → x < m → 3 < c → c < 16 → y ≡ cell w m 3 x → y ≢ r → w₁ ≡ store w m 3 x r → z ≡ cell w₁ m c x → w₂ ≡ store w₁ m c x (z + 1) → TouchOne m count c x r w w₂
+touch-first {m} {count} {c} {x} {r} {y} {z} {w} {w₁} {w₂} sz fw l lc hc q n u e v = record {
+  both = record { length-is = ap length v ∙ length-store w₁ m c x (z + 1) ∙ l₁; others = λ d j n3 nc k. cells d j ∙ kept-column w₁ m c d x j (z + 1) (λ s. nc (sym s)) l k ∙ cells₁ d j ∙ kept-column w m 3 d x j r (λ s. n3 (sym s)) l k };
+  here = record {
+    stamp = cells 3 x ∙ kept-column w₁ m c 3 x x (z + 1) (λ s. omega (arith, s, lc)) l l ∙ cells₁ 3 x ∙ upd-store w m 3 x r (omega arith) l sz .here;
+    counted = cells c x ∙ upd-store w₁ m c x (z + 1) hc l (l₁ ∙ sz) .here ∙ ap (λ (a : ℕ). a + 1) (e ∙ cells₁ c x ∙ kept-column w m 3 c x x r (λ s. omega (arith, s, lc)) l l) ∙ sym (bump-first (cell w m c x) (λ s. n (q ∙ s)));
+  };
+  else = λ h k nh. record {
+    stamp = cells 3 h ∙ kept-column w₁ m c 3 x h (z + 1) (λ s. omega (arith, s, lc)) l (omega arith) ∙ cells₁ 3 h ∙ upd-store w m 3 x r (omega arith) l sz .else h (omega arith) nh;
+    counted = cells c h ∙ upd-store w₁ m c x (z + 1) hc l (l₁ ∙ sz) .else h (omega arith) nh ∙ cells₁ c h ∙ kept-column w m 3 c x h r (λ s. omega (arith, s, lc)) l (omega arith);
+  };
+}
+  where
+    l₁ : length w₁ ≡ length w
+    l₁ = ap length u ∙ length-store w m 3 x r
+
+    cells : (d j : ℕ) → cell w₂ m d j ≡ cell (store w₁ m c x (z + 1)) m d j
+    cells d j = ap (λ (a : List ℕ). cell a m d j) v
+
+    cells₁ : (d j : ℕ) → cell w₁ m d j ≡ cell (store w m 3 x r) m d j
+    cells₁ d j = ap (λ (a : List ℕ). cell a m d j) u
+
+-- the counter before it moves has room
+pub first-small : (w : List ℕ) (m c x r : ℕ) {z : ℕ} {w₁ : List ℕ} → x < m → 3 < c → w₁ ≡ store w m 3 x r → z ≡ cell w₁ m c x → cell w m c x < 65535 → z + 1 < 4294967296
+first-small w m c x r {z} {w₁} l lc u e h =
+    let k = ap (λ (a : List ℕ). cell a m c x) u ∙ kept-column w m 3 c x x r (λ s. omega (arith, s, lc)) l l in
+    omega (arith, e, k, h)
+
+-- ---- all groups on the way up from g
+
+pub record UpState (b : List ℕ) (m count c g r x : ℕ) (w₀ w : List ℕ) : Type 0 where
+  pub both : Both m c w₀ w
+  pub done : (h : ℕ) → h < count → Leads (index (graphIn b)) g h → h < x → Touched m c r h w₀ w
+  pub todo : (h : ℕ) → h < count → Leads (index (graphIn b)) g h → x ≤ h → Left m c h w₀ w
+  pub off : (h : ℕ) → h < count → ¬ (Leads (index (graphIn b)) g h) → Left m c h w₀ w
+  pub place : (x ≡ noGroup) ⊎ Leads (index (graphIn b)) g x
+
+pub up-none : {b : List ℕ} {at m count c g r : ℕ} {w : List ℕ} → UpGiven b at m count c → (g ≡ noGroup) ⊎ (g < count) → UpState b m count c g r g w w
+up-none {b} {at} {m} {count} {c} {g} {r} {w} A p = record {
+  both = both-none;
+  done = λ h l v k. absurd (omega (arith, k, rising I v));
+  todo = λ h l v k. left-none;
+  off = λ h l n. left-none;
+  place = go p;
+}
+  where
+    I : IsIndex b
+    I = A .groups-at .is-index
+
+    go : (g ≡ noGroup) ⊎ (g < count) → (g ≡ noGroup) ⊎ Leads (index (graphIn b)) g g
+    go (inl e) = inl e
+    go (inr l) = inr (arrived {g = g} (omega (arith, l, A .groups, group-rows-length (graphIn b) (proper I) (fits-groups I))))
+
+module _ {b : List ℕ} {at m count c g r x : ℕ} {w₀ w : List ℕ} (A : UpGiven b at m count c) (S : UpState b m count c g r x w₀ w) (n : x ≢ noGroup) where
+  I : IsIndex b
+  I = A .groups-at .is-index
+
+  on-path : Leads (index (graphIn b)) g x
+  on-path = go (S .place)
+    where
+      go : (x ≡ noGroup) ⊎ Leads (index (graphIn b)) g x → Leads (index (graphIn b)) g x
+      go (inl e) = absurd (n e)
+      go (inr v) = v
+
+  ends-in : {g x : ℕ} → Leads (index (graphIn b)) g x → x < groupCount (graphIn b)
+  ends-in (arrived l) = omega (arith, l, group-rows-length (graphIn b) (proper I) (fits-groups I))
+  ends-in (Rattle.truss.specs.Stored.up l v) = ends-in v
+
+  pub up-in : x < count
+  up-in = omega (arith, ends-in on-path, A .groups)
+
+  -- its counter is as it was
+  pub up-count : cell w m c x ≡ cell w₀ m c x
+  up-count = S .todo x up-in on-path (omega arith) .counted
+
+  pub up-falls : {p : ℕ} → p ≡ parentOf (graphIn b) x → count - p < count - x
+  up-falls {p} q = go (parent-cases I x (omega (arith, up-in, A .groups)))
+    where
+      go : (parentOf (graphIn b) x < groupCount (graphIn b)) ⊎ (parentOf (graphIn b) x ≡ noGroup) → count - p < count - x
+      go (inl l) = omega (arith, l, q, up-in, A .groups, parent-rises (graphIn b) (proper I) (fits-groups I) x (omega (arith, up-in, A .groups)) l)
+      go (inr e) = omega (arith, e, q, up-in, up-few A .0, up-few A .1)
+
+  pub up-more : {p : ℕ} {w′ : List ℕ} → p ≡ parentOf (graphIn b) x → TouchOne m count c x r w w′ → UpState b m count c g r p w₀ w′
+  up-more {p} {w′} q T = record {
+    both = both-then (S .both) (T .both);
+    done = λ h l v k. done h l v k (same-or-not h x);
+    todo = λ h l v k. left-then (T .else h l (λ e. omega (arith, e, k, rises))) (S .todo h l v (omega (arith, k, rises)));
+    off = λ h l nv. left-then (T .else h l (λ e. nv (subst (λ (y : ℕ). Leads (index (graphIn b)) g y) (sym e) on-path))) (S .off h l nv);
+    place = place (parent-cases I x lx);
+  }
+    where
+      lx : x < groupCount (graphIn b)
+      lx = omega (arith, up-in, A .groups)
+
+      rises : x < p
+      rises = go (parent-cases I x lx)
+        where
+          go : (parentOf (graphIn b) x < groupCount (graphIn b)) ⊎ (parentOf (graphIn b) x ≡ noGroup) → x < p
+          go (inl l) = omega (arith, q, parent-rises (graphIn b) (proper I) (fits-groups I) x lx l)
+          go (inr e) = omega (arith, e, q, up-in, up-few A .0, up-few A .1)
+
+      left-then : {h : ℕ} → Left m c h w w′ → Left m c h w₀ w → Left m c h w₀ w′
+      left-then a d = record { stamp = a .stamp ∙ d .stamp; counted = a .counted ∙ d .counted }
+
+      done : (h : ℕ) → h < count → Leads (index (graphIn b)) g h → h < p → (h ≡ x) ⊎ (h ≢ x) → Touched m c r h w₀ w′
+      done h l v k (inl e) =
+          let t = S .todo x up-in on-path (omega arith) in
+          rw e (record { stamp = T .here .stamp; counted = T .here .counted ∙ ap₂ (λ (a d : ℕ). bump a r d) (t .stamp) (t .counted) })
+      done h l v k (inr ne) = by (less-or-not h x)
+        where
+          by : (h < x) ⊎ (x ≤ h) → Touched m c r h w₀ w′
+          by (inl s) = let t = S .done h l v s in let a = T .else h l ne in record { stamp = a .stamp ∙ t .stamp; counted = a .counted ∙ t .counted }
+          by (inr s) =
+              let on = onward I on-path v (omega arith) in
+              absurd (omega (arith, k, q, rising I on))
+
+      place : (parentOf (graphIn b) x < groupCount (graphIn b)) ⊎ (parentOf (graphIn b) x ≡ noGroup) → (p ≡ noGroup) ⊎ Leads (index (graphIn b)) g p
+      place (inl l) = inr (subst (λ (y : ℕ). Leads (index (graphIn b)) g y) (sym q) (step-up I on-path l))
+      place (inr e) = inl (q ∙ e)
+
+pub record UpGives (b : List ℕ) (m count c g r : ℕ) (w w′ : List ℕ) : Type 0 where
+  pub both : Both m c w w′
+  pub on : (h : ℕ) → h < count → Leads (index (graphIn b)) g h → Touched m c r h w w′
+  pub off : (h : ℕ) → h < count → ¬ (Leads (index (graphIn b)) g h) → Left m c h w w′
+
+pub up-done : {b : List ℕ} {at m count c g r x : ℕ} {w w′ : List ℕ} → UpGiven b at m count c → UpState b m count c g r x w w′ → x ≡ noGroup → UpGives b m count c g r w w′
+up-done A S e = record { both = S .both; on = λ h l v. S .done h l v (omega (arith, e, l, up-few A .0, up-few A .1)); off = S .off }
+
+-- ---- all groups that hold a link
+
+pub record LinkGives (b : List ℕ) (m count c i r : ℕ) (w w′ : List ℕ) : Type 0 where
+  pub both : Both m c w w′
+  pub on : (h : ℕ) → h < count → In i (stored (graphIn b) h .members) → Touched m c r h w w′
+  pub off : (h : ℕ) → h < count → ¬ (In i (stored (graphIn b) h .members)) → Left m c h w w′
+
+pub link-gives : {b : List ℕ} {at m count c i g r : ℕ} {w w′ : List ℕ} → UpGiven b at m count c → i < m → g ≡ ownGroup (graphIn b) i → UpGives b m count c g r w w′ → LinkGives b m count c i r w w′
+link-gives {b} {at} {m} {count} {c} {i} {g} A l q U = record {
+  both = U .both;
+  on = λ h k v. U .on h k (subst (λ (y : ℕ). Leads (index (graphIn b)) y h) (sym q) (in-leads I i h li (omega (arith, k, A .groups)) v));
+  off = λ h k nv. U .off h k (λ v. nv (leads-in I i h li (subst (λ (y : ℕ). Leads (index (graphIn b)) y h) q v)));
+}
+  where
+    I : IsIndex b
+    I = A .groups-at .is-index
+
+    li : i < size (graphIn b)
+    li = omega (arith, l, A .links)
+
+-- ---- what the functions ask
+
+-- counters have room for one more
+abbrev pub Small : ℕ → ℕ → ℕ → List ℕ → Type 0
+Small m count c w = (h : ℕ) → h < count → cell w m c h < 65535
+
+-- a group, or none
+abbrev pub UpFrom : ℕ → ℕ → Type 0
+UpFrom count g = (g ≡ noGroup) ⊎ (g < count)
+
+pub own-from : {b : List ℕ} {at m count c i g : ℕ} → UpGiven b at m count c → i < m → g ≡ ownGroup (graphIn b) i → UpFrom count g
+own-from {b} {at} {m} {count} {c} {i} {g} A l q = go (own-cases (A .groups-at .is-index) i (omega (arith, l, A .links)))
+  where
+    go : ((ownGroup (graphIn b) i < groupCount (graphIn b)) × (minLevel ≤ strengthAt (graphIn b) i)) ⊎ ((ownGroup (graphIn b) i ≡ noGroup) × (strengthAt (graphIn b) i < minLevel)) → UpFrom count g
+    go (inl (x, y)) = inr (omega (arith, x, q, A .groups))
+    go (inr (x, y)) = inl (q ∙ x)
