@@ -146,6 +146,7 @@ record RuleCases : Type 0 where
   seventeen : answer triangle (ask-all (accounts (0 ∷ 0 ∷ 0 ∷ 0 ∷ 0 ∷ 0 ∷ 0 ∷ 0 ∷ 0 ∷ 0 ∷ 0 ∷ 0 ∷ 0 ∷ 0 ∷ 0 ∷ 0 ∷ 0 ∷ []))) ≡ refuse 8 0
   count-before-account : answer nested (ask-groups-at 2 (0 ∷ 8 ∷ 0 ∷ [])) ≡ refuse 8 0
   account-before-level : answer nested (ask-groups-at 2 (accounts (8 ∷ []))) ≡ refuse 9 0
+  account-before-level-F : answer nested (ask-links 65 0 8) ≡ refuse 9 0
   level-2 : answer nested (ask-groups-at 2 (accounts (6 ∷ []))) ≡ refuse 10 0
   level-3 : answer triangle (ask-links 3 1 0) ≡ passed (numbers (0 ∷ 1 ∷ 2 ∷ []))
   level-64 : answer triangle (ask-links 64 0 1) ≡ passed (numbers [])
@@ -212,6 +213,7 @@ rule-cases = record {
   seventeen = refl;
   count-before-account = refl;
   account-before-level = refl;
+  account-before-level-F = refl;
   level-2 = refl;
   level-3 = refl;
   level-64 = refl;
