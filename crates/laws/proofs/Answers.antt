@@ -19,8 +19,8 @@ use Rattle.truss.specs.Group.{Group, groups, groupAt, leastLink}
 use Rattle.truss.specs.Question.{joinedUpTo, holds, holdsAll, emptyGroup, numbersOf, isGroupAt, groupsHolding, strongestHolding, allHolding}
 use Rattle.truss.specs.Call.{tallyBytes, tallyIn}
 use Rattle.laws.proofs.Proper.{Proper}
-use Rattle.laws.proofs.Lists.{test, both, true-not-false, and-left, and-right}
-use Rattle.laws.proofs.Members.{filter-in, in-filter, filter-none, range-in, in-range, any-in}
+use Rattle.laws.proofs.Lists.{test, bool-same, both, true-not-false, and-left, and-right}
+use Rattle.laws.proofs.Members.{filter-in, in-filter, filter-none, range-in, in-range, first-in, any-in}
 use Rattle.laws.proofs.Sets.{all-in, in-all, filter-same, eq-same-list, same-list-eq}
 use Rattle.laws.proofs.Chains.{strength-at-least, at-least-strength}
 use Rattle.laws.proofs.Groups.{size, strengthAt, group-self, group-rebase}
@@ -53,12 +53,6 @@ abbrev noWeaker : Graph → List ℕ → Group → Group → Bool
 noWeaker G vs g o = not (holdsAll G vs o) || leb (o .strength) (g .strength)
 
 -- ---- C, D and E: "a repeat changes no answer": two rows of the same accounts have one answer
-
-bool-same : (a b : Bool) → (a ≡ true → b ≡ true) → (b ≡ true → a ≡ true) → a ≡ b
-bool-same true true f g = refl
-bool-same true false f g = sym (f refl)
-bool-same false true f g = g refl
-bool-same false false f g = refl
 
 module _ (G : Graph) (us vs : List ℕ) (same : (v : ℕ) → In v us ↔ In v vs) where
   holds-same : (g : Group) → holdsAll G us g ≡ holdsAll G vs g
@@ -141,10 +135,6 @@ module _ (G : Graph) (proper : Proper G) (k : ℕ) (level : minLevel ≤ k) (vs 
           → (g : ℕ) × In g (groupsHolding G k vs) × (stored G g .members ≡ groupAt G k i)
       from (g, lg, q, kg) = (g, in-numbers (λ (x : Group). isGroupAt G k x && holdsAll G vs x) (groups G) lg (both at-k all-held), q)
         where
-          first-in : (xs : List ℕ) {j : ℕ} → In j xs → In (getD xs 0 0) xs
-          first-in [] m = absurd (in-nil m)
-          first-in (x ∷ xs) m = here refl
-
           least : In (leastLink (stored G g)) (groupAt G k i)
           least = subst (λ (xs : List ℕ). In (getD (stored G g .members) 0 0) xs) q (first-in (stored G g .members) (subst (In i) (sym q) (group-self G k i li si)))
 

@@ -22,6 +22,12 @@ pub and-right : (a b : Bool) → (a && b) ≡ true → b ≡ true
 and-right true b h = h
 and-right false b h = let z : _≡_ {A = ℕ} 0 1 = cc in absurd (omega arith)
 
+-- tests that hold together are the same
+pub bool-same : (a b : Bool) → (a ≡ true → b ≡ true) → (b ≡ true → a ≡ true) → a ≡ b
+bool-same true b f g = sym (f refl)
+bool-same false true f g = g refl
+bool-same false false f g = refl
+
 pub both : {a b : Bool} → a ≡ true → b ≡ true → (a && b) ≡ true
 both h k = rw (h, k)
 

@@ -195,6 +195,17 @@ module _ {A B : Type 0} where
       go (inl q) ih = here (ap f q)
       go (inr k) ih = there (ih k)
 
+-- the last of the numbers from a on
+pub range-last : (a n : ℕ) → range a (suc n) ≡ range a n ++ ((a + n) ∷ [])
+unfolding range
+range-last a zero = ap (λ (x : ℕ). x ∷ []) (omega arith)
+range-last a (suc n) = ap {B = List ℕ} (λ r. a ∷ r) (range-last (suc a) n ∙ ap (λ (x : ℕ). range (suc a) n ++ (x ∷ [])) (omega arith))
+
+-- a list with an element has a first
+pub first-in : (xs : List ℕ) {j : ℕ} → In j xs → In (getD xs 0 0) xs
+first-in [] m = absurd (in-nil m)
+first-in (x ∷ xs) m = here refl
+
 pub range-in : (a n : ℕ) {i : ℕ} → In i (range a n) → (a ≤ i) × (i < a + n)
 unfolding range
 range-in a zero {i} m = absurd (in-nil m)

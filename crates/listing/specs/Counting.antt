@@ -18,9 +18,10 @@ use Rattle.truss.specs.Graph.{Graph, Link, link, linkAt, linkNumber, ends, memb
 use Rattle.truss.specs.Forest.{sameComponent}
 use Rattle.truss.specs.Group.{Group, groups, groupAt, labelsAt}
 use Rattle.truss.specs.Question.{holds}
-use Rattle.laws.proofs.Lists.{test, true-not-false, or-cases}
+use Rattle.laws.proofs.Lists.{test, bool-same, true-not-false, or-cases}
 use Rattle.laws.proofs.Numbers.{same-or-not, less-or-not}
-use Rattle.laws.proofs.Members.{any-in, in-any, filter-in, in-filter, in-range, in-member, getD-in, link-of-number, number-lt}
+use Rattle.laws.proofs.Sets.{any-number}
+use Rattle.laws.proofs.Members.{range-last, any-in, in-any, filter-in, in-filter, in-range, in-member, getD-in, link-of-number, number-lt}
 use Rattle.laws.proofs.Lowering.{count-same}
 use Rattle.laws.proofs.Groups.{size, strengthAt, groupAt-eq, group-strong}
 use Rattle.laws.proofs.Stored.{groupCount, stored, stored-at, stored-in}
@@ -35,9 +36,6 @@ use Rattle.listing.specs.Touching.{UpGiven, up-few, Touched, Left, Both,
 abbrev pub memberOf : Graph → ℕ → ℕ → Bool
 memberOf G h j = any (eqb j) (stored G h .members)
 
-any-of : (j : ℕ) (xs : List ℕ) → any (eqb j) xs ≡ true → In j xs
-any-of j xs t = let r = any-in (eqb j) xs t in subst (λ (y : ℕ). In y xs) (sym (eqb-true j (r .0) (r .2))) (r .1)
-
 of-any : (j : ℕ) (xs : List ℕ) → In j xs → any (eqb j) xs ≡ true
 of-any j xs m = in-any (eqb j) xs m (eq-eqb j j refl)
 
@@ -45,7 +43,7 @@ in-or-not : (j : ℕ) (xs : List ℕ) → In j xs ⊎ (¬ (In j xs))
 in-or-not j xs = go (test (any (eqb j) xs))
   where
     go : (any (eqb j) xs ≡ true) ⊎ (any (eqb j) xs ≡ false) → In j xs ⊎ (¬ (In j xs))
-    go (inl t) = inl (any-of j xs t)
+    go (inl t) = inl (any-number j xs t)
     go (inr f) = inr (λ m. true-not-false (of-any j xs m) f)
 
 more-yes : (p : ℕ → Bool) (i : ℕ) → p i ≡ true → howMany p (i + 1) ≡ howMany p i + 1
@@ -91,7 +89,7 @@ links-more {b} {m} {count} {c} {i} {w} {w′} R L = record {
     false-of h n = go (test (memberOf (graphIn b) h i))
       where
         go : (memberOf (graphIn b) h i ≡ true) ⊎ (memberOf (graphIn b) h i ≡ false) → memberOf (graphIn b) h i ≡ false
-        go (inl t) = absurd (n (any-of i (stored (graphIn b) h .members) t))
+        go (inl t) = absurd (n (any-number i (stored (graphIn b) h .members) t))
         go (inr f) = f
 
     counts : (h : ℕ) → h < count → In i (stored (graphIn b) h .members) ⊎ (¬ (In i (stored (graphIn b) h .members))) → cell w′ m c h ≡ howMany (memberOf (graphIn b) h) (i + 1)
@@ -101,11 +99,6 @@ links-more {b} {m} {count} {c} {i} {w} {w′} R L = record {
     counts h l (inr n) = L .off h l n .counted ∙ R .counts h l ∙ sym (more-no (memberOf (graphIn b) h) i (false-of h n))
 
 -- ---- they are its length
-
-range-last : (a n : ℕ) → range a (suc n) ≡ range a n ++ ((a + n) ∷ [])
-unfolding range
-range-last a zero = ap (λ (x : ℕ). x ∷ []) (omega arith)
-range-last a (suc n) = ap {B = List ℕ} (λ r. a ∷ r) (range-last (suc a) n ∙ ap (λ (x : ℕ). range (suc a) n ++ (x ∷ [])) (omega arith))
 
 filter-length : (p : ℕ → Bool) (xs : List ℕ) (x : ℕ) → length (filter p (xs ++ (x ∷ []))) ≡ cond (p x) 1 0 + length (filter p xs)
 unfolding filter
@@ -126,12 +119,6 @@ unfolding howMany filter range
 how-many-filter p zero = refl
 how-many-filter p (suc n) = ap (λ (xs : List ℕ). length (filter p xs)) (range-last 0 n ∙ ap (λ (x : ℕ). range 0 n ++ (x ∷ [])) (zero-add n)) ∙ filter-length p (range 0 n) n ∙ ap (λ (x : ℕ). cond (p n) 1 0 + x) (how-many-filter p n)
 
-bool-same : (a b : Bool) → (a ≡ true → b ≡ true) → (b ≡ true → a ≡ true) → a ≡ b
-bool-same true true f g = refl
-bool-same true false f g = sym (f refl)
-bool-same false true f g = g refl
-bool-same false false f g = refl
-
 pub group-length : (G : Graph) (h : ℕ) → h < groupCount G → howMany (memberOf G h) (size G) ≡ length (stored G h .members)
 group-length G h l = count-same (memberOf G h) q (size G) same ∙ sym (ap length is ∙ how-many-filter q (size G))
   where
@@ -149,7 +136,7 @@ group-length G h l = count-same (memberOf G h) q (size G) same ∙ sym (ap lengt
 
     same : (j : ℕ) → j < size G → memberOf G h j ≡ q j
     same j lj = bool-same (memberOf G h j) (q j)
-        (λ t. filter-in q (range 0 (size G)) (subst (In j) is (any-of j (stored G h .members) t)) .1)
+        (λ t. filter-in q (range 0 (size G)) (subst (In j) is (any-number j (stored G h .members) t)) .1)
         (λ t. of-any j (stored G h .members) (subst (In j) (sym is) (in-filter q (range 0 (size G)) (in-range 0 (size G) (omega arith) (omega arith)) t)))
 
 -- ---- accounts of a group

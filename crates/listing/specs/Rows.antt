@@ -3,7 +3,7 @@ use mathlib.Core.Path.{_≡_, refl, sym, ap, ap₂, _∙_, subst}
 use mathlib.Core.Logic.{_⊎_, inl, inr, _≢_}
 use mathlib.Core.Bool.{Bool}
 use mathlib.Core.List.{List, [], _∷_, _++_, map}
-use mathlib.Core.List.{List·Memᴰ as In, List·Memᴰ·head as here, List·Memᴰ·not-nil as in-nil}
+use mathlib.Core.List.{List·Memᴰ as In}
 use Prim.Native.Nat.{ℕ, zero, suc, _+_, _*_, _/_, _%_, _-_, _≤_, _<_}
 use native.Mathlib.Omega.{arith}
 use lib.ListN.{length, getD, drop, length-map}
@@ -21,7 +21,7 @@ use Rattle.truss.specs.IndexFile.{readIndex}
 use Rattle.truss.specs.Listing.{Row, row, rows}
 use Rattle.truss.specs.Call.{done, write, checkRoom}
 use Rattle.laws.proofs.Numbers.{same-or-not, less-or-not}
-use Rattle.laws.proofs.Members.{number-lt, in-member, getD-in, range-length}
+use Rattle.laws.proofs.Members.{number-lt, first-in, in-member, getD-in, range-length}
 use Rattle.laws.proofs.Sets.{map-at, map-range-at}
 use Rattle.laws.proofs.Size.{index-room}
 use Rattle.laws.proofs.Tree.{group-row-at}
@@ -261,10 +261,6 @@ module _ {b : List ℕ} {at m count g : ℕ} {w : List ℕ} (A : RowAsks b at m 
 
   pub row-room : g < m
   row-room = omega (arith, row-in, few I, A .all .links)
-
-  first-in : (xs : List ℕ) {j : ℕ} → In j xs → In (getD xs 0 0) xs
-  first-in [] k = absurd (in-nil k)
-  first-in (x ∷ xs) k = here refl
 
   pub least-in : {e : ℕ} → e ≡ leastLink (stored (graphIn b) g) → e < size (graphIn b)
   least-in q =

@@ -2,8 +2,8 @@
 use mathlib.Core.Path.{_≡_, refl, sym, ap, ap₂, _∙_, subst}
 use mathlib.Core.Logic.{_⊎_, inl, inr, _≢_}
 use mathlib.Core.Bool.{Bool, true, false, _&&_}
-use mathlib.Core.List.{List, [], _∷_}
-use mathlib.Core.List.{List·Memᴰ as In, List·Memᴰ·head as here, List·Memᴰ·not-nil as in-nil}
+use mathlib.Core.List.{List}
+use mathlib.Core.List.{List·Memᴰ as In}
 use Prim.Native.Nat.{ℕ, _+_, _*_, _≤_, _<_}
 use native.Mathlib.Omega.{arith}
 use lib.ListN.{length, getD}
@@ -16,7 +16,8 @@ use Rattle.truss.specs.Index.{index}
 use Rattle.truss.specs.Stored.{Leads, up}
 use Rattle.truss.specs.Stored.{here as arrived}
 use Rattle.truss.specs.Question.{isGroupAt}
-use Rattle.laws.proofs.Members.{filter-in, in-filter, in-range}
+use Rattle.laws.proofs.Lists.{bool-same}
+use Rattle.laws.proofs.Members.{first-in, filter-in, in-filter, in-range}
 use Rattle.laws.proofs.Sets.{filter-same, same-list-eq, eq-same-list}
 use Rattle.laws.proofs.Groups.{size, strengthAt, groupAt-eq, group-strong, group-in, group-down, group-rebase}
 use Rattle.laws.proofs.Stored.{groupCount, stored, stored-at, stored-distinct, stored-in}
@@ -24,16 +25,6 @@ use Rattle.laws.proofs.Tree.{group-rows-length, leads-holds, parent-rises, clim
 use Rattle.laws.proofs.Meaning.{stored-largest}
 use Rattle.laws.proofs.Numbers.{less-or-not}
 use Rattle.stored.specs.Rows.{graphIn, IsIndex, parentOf, proper, fits-groups, few, few-links, parent-cases}
-
-first-in : (xs : List ℕ) {j : ℕ} → In j xs → In (getD xs 0 0) xs
-first-in [] m = absurd (in-nil m)
-first-in (x ∷ xs) m = here refl
-
-bool-same : (a b : Bool) → (a ≡ true → b ≡ true) → (b ≡ true → a ≡ true) → a ≡ b
-bool-same true true f g = refl
-bool-same true false f g = sym (f refl)
-bool-same false true f g = g refl
-bool-same false false f g = refl
 
 -- groups at two levels with the same links are the same list
 group-ext : (G : Graph) (k l i : ℕ) → k ≤ strengthAt G i → l ≤ strengthAt G i → ((j : ℕ) → In j (groupAt G k i) → In j (groupAt G l i)) → ((j : ℕ) → In j (groupAt G l i) → In j (groupAt G k i)) → groupAt G k i ≡ groupAt G l i

@@ -21,6 +21,7 @@ use Rattle.truss.specs.Question.{Answer, number, numbers, answer, outside, badL
 use Rattle.laws.proofs.Lists.{test, true-not-false, both, and-left, and-right, largest-max, largest-passes}
 use Rattle.laws.proofs.Numbers.{same-or-not, less-or-not}
 use Rattle.laws.proofs.Members.{any-in, in-any, number-lt, link-of-number, filter-in, in-filter, filter-none, in-range}
+use Rattle.laws.proofs.Sets.{any-number}
 use Rattle.laws.proofs.Proper.{Proper}
 use Rattle.laws.proofs.Peeling.{strength-at-most}
 use Rattle.laws.proofs.Groups.{size, strengthAt, groupAt-eq, groupAt-none, group-strong}
@@ -162,9 +163,6 @@ module _ (G : Graph) {n : ℕ} (accounts : G .n ≡ n) (a b c d : ℕ) where
 
 -- ---- links of one group
 
-any-of : (j : ℕ) (xs : List ℕ) → any (eqb j) xs ≡ true → In j xs
-any-of j xs t = let r = any-in (eqb j) xs t in subst (λ (y : ℕ). In y xs) (sym (eqb-true j (r .0) (r .2))) (r .1)
-
 module _ {b : List ℕ} (I : IsIndex b) {k i j : ℕ} (level : minLevel ≤ k) (li : i < size (graphIn b)) (lj : j < size (graphIn b)) where
   abbrev G : Graph
   G = graphIn b
@@ -183,7 +181,7 @@ module _ {b : List ℕ} (I : IsIndex b) {k i j : ℕ} (level : minLevel ≤ k) (
   any-false n = go (test (any (eqb j) (groupAt G k i)))
     where
       go : (any (eqb j) (groupAt G k i) ≡ true) ⊎ (any (eqb j) (groupAt G k i) ≡ false) → any (eqb j) (groupAt G k i) ≡ false
-      go (inl t) = absurd (n (any-of j (groupAt G k i) t))
+      go (inl t) = absurd (n (any-number j (groupAt G k i) t))
       go (inr f) = f
 
   pub joined-none : {g : ℕ} → g ≡ groupOf G (groups G) k i → g ≡ noGroup → false ≡ any (eqb j) (groupAt G k i)
@@ -227,7 +225,7 @@ module _ (G : Graph) (x y : Link) (mx : member (G .links) x ≡ true) {e f : ℕ
       here = sym q ∙ z
 
       strong : k ≤ strengthAt G e
-      strong = group-strong G k e (any-of f (groupAt G k e) here)
+      strong = group-strong G k e (any-number f (groupAt G k e) here)
 
       low : k ≤ largest p (strengthBound G)
       low = largest-max p (strengthBound G) k (omega (arith, strong, strength-at-most G (linkAt G e))) (both (le-leb minLevel k l) (sym (any-same k) ∙ here))

@@ -15,7 +15,8 @@ use Rattle.truss.specs.Record.{field}
 use Rattle.truss.specs.Question.{numbers}
 use Rattle.truss.specs.Call.{Written, done, withRoom, answerBytes, answerValue}
 use Rattle.laws.proofs.Numbers.{same-or-not}
-use Rattle.laws.proofs.Members.{range-in}
+use Rattle.laws.proofs.Lists.{bool-same}
+use Rattle.laws.proofs.Members.{range-last, range-in}
 use Rattle.laws.proofs.Sets.{filter-same}
 use Rattle.columns.specs.Columns.{cell}
 use Rattle.wire.specs.Writing.{written, written-start, written-none, written-length, written-then}
@@ -35,11 +36,6 @@ unfolding filter range
 marked w m size = filter (marksIt w m) (range 0 size)
 
 -- one number more
-range-last : (a n : ℕ) → range a (suc n) ≡ range a n ++ ((a + n) ∷ [])
-unfolding range
-range-last a zero = ap (λ (x : ℕ). x ∷ []) (omega arith)
-range-last a (suc n) = ap {B = List ℕ} (λ r. a ∷ r) (range-last (suc a) n ∙ ap (λ (x : ℕ). range (suc a) n ++ (x ∷ [])) (omega arith))
-
 filter-last : (p : ℕ → Bool) (xs : List ℕ) (x : ℕ) → filter p (xs ++ (x ∷ [])) ≡ filter p xs ++ cond (p x) (x ∷ []) []
 unfolding filter
 filter-last p [] x = go (p x)
@@ -130,12 +126,6 @@ module _ (xs out : List ℕ) where
       rw (le-ltb (length out) (length (answerBytes (numbers xs))) (omega (arith, answer-length xs)), given) (λ i. record { reply = v i; buffer = e i })
 
 -- ---- what is marked is what passes a test
-
-bool-same : (a b : Bool) → (a ≡ true → b ≡ true) → (b ≡ true → a ≡ true) → a ≡ b
-bool-same true true f g = refl
-bool-same true false f g = sym (f refl)
-bool-same false true f g = g refl
-bool-same false false f g = refl
 
 pub marked-are : (w : List ℕ) (m size : ℕ) (p : ℕ → Bool) → Marks (cell w m 0) size (λ (i : ℕ). p i ≡ true) → marked w m size ≡ filter p (range 0 size)
 unfolding marked

@@ -10,6 +10,7 @@ use native.Mathlib.Omega.{arith}
 use lib.ListN.{length, getD, take, drop, set, length-append, length-take, length-drop, length-set, take-append-drop, drop-of-length-le}
 use lib.Seq.{take-all, length-take-le, take-at, drop-at, drop-drop, take-suc, set-split, getD-take}
 use Rattle.truss.specs.Lists.{concatMap, range}
+use Rattle.laws.proofs.Members.{range-last}
 
 -- w with bs over what stands from at on
 unfoldable pub written : List ℕ → ℕ → List ℕ → List ℕ
@@ -120,11 +121,6 @@ unfolding concatMap
 concat-snoc f [] x = append-nil (f x)
 concat-snoc f (y ∷ ys) x = ap (λ (r : List ℕ). f y ++ r) (concat-snoc f ys x) ∙ sym (append-assoc (f y) (concatMap f ys) (f x))
 
-range-snoc : (a n : ℕ) → range a (suc n) ≡ range a n ++ ((a + n) ∷ [])
-unfolding range
-range-snoc a zero = ap (λ (x : ℕ). x ∷ []) (sym (add-zero a))
-range-snoc a (suc n) = ap {B = List ℕ} (λ r. a ∷ r) (range-snoc (suc a) n ∙ ap (λ (x : ℕ). range (suc a) n ++ (x ∷ [])) (omega arith))
-
 map-snoc : {A B : Type 0} (g : A → B) (xs : List A) (x : A) → map g (xs ++ (x ∷ [])) ≡ map g xs ++ (g x ∷ [])
 map-snoc g [] x = refl
 map-snoc {A} {B} g (y ∷ ys) x = ap {B = List B} (λ r. g y ∷ r) (map-snoc g ys x)
@@ -135,7 +131,7 @@ unfolding upTo concatMap range
 upTo-rows bytes g zero = refl
 upTo-rows {A} bytes g (suc i) =
     ap (λ (r : List ℕ). r ++ bytes (g i)) (upTo-rows bytes g i) ∙ sym (concat-snoc bytes (map g (range 0 i)) (g i))
-    ∙ ap (concatMap bytes) (sym (map-snoc g (range 0 i) i) ∙ ap (map g) (ap (λ (x : ℕ). range 0 i ++ (x ∷ [])) (sym (zero-add i)) ∙ sym (range-snoc 0 i)))
+    ∙ ap (concatMap bytes) (sym (map-snoc g (range 0 i) i) ∙ ap (map g) (ap (λ (x : ℕ). range 0 i ++ (x ∷ [])) (sym (zero-add i)) ∙ sym (range-last 0 i)))
 
 -- ---- comparing
 
