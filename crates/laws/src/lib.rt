@@ -1,3 +1,6 @@
-// The laws of the definitions stand in proofs/. The check looks at a crate only if it has a function: this one.
+// The laws of the definitions stand in proofs/. The check looks at a crate only if it has a function: this one promises what they lead to, demand 3.
+ghost use Rattle.truss.specs.Demand3.{Demand3, OnlyShortMemory};
 
-pub fn laws() {}
+pub fn laws()
+    ensures { λ _. ⌜ Demand3 × OnlyShortMemory ⌝ }
+{}

@@ -19,7 +19,7 @@ use Rattle.truss.specs.Cards.{pair, file, headOnly, accounts, pairsA, pa
 
 -- ---- document 01, "Meetings on paper (P: proved)"
 
-record Cases : Type 0 where
+pub record Cases : Type 0 where
   one-account : indexBytes (graphOf 1 []) ≡ 1 ∷ 0 ∷ 1 ∷ 0 ∷ 0 ∷ 5 ∷ []
   no-accounts : readLinks (headOnly 0) ≡ refuse 2 0
   too-many-accounts : readLinks (headOnly 1025) ≡ refuse 2 0
@@ -52,7 +52,7 @@ record Cases : Type 0 where
       ∷ 0x31 ∷ 0x20 ∷ 0x34 ∷ 0x20 ∷ 0x32 ∷ 0x20 ∷ 0x36 ∷ 0x20 ∷ 0x34 ∷ 0x20 ∷ 0x33 ∷ 0x20 ∷ 0x34 ∷ 0x0A
       ∷ 0x32 ∷ 0x20 ∷ 0x33 ∷ 0x20 ∷ 0x2D ∷ 0x20 ∷ 0x31 ∷ 0x33 ∷ 0x20 ∷ 0x37 ∷ 0x20 ∷ 0x30 ∷ 0x20 ∷ 0x31 ∷ 0x0A ∷ []
 
-cases : Cases
+pub cases : Cases
 unfolding accounts graphA indexA graphB indexB bowTie five pairsA′ headOnly indexBytes graphOf readLinks writeLinks readIndex support member answer groups rows lister
 cases = record {
   one-account = refl;
@@ -81,7 +81,7 @@ cases = record {
 
 -- ---- ties, limits, and every order of checks
 
-record RuleCases : Type 0 where
+pub record RuleCases : Type 0 where
   -- ties: joins of equal weight, groups of equal strength, the smallest of several containing groups
   equal-weights : forest kite ≡ join 0 1 3 ∷ join 0 3 3 ∷ join 1 2 3 ∷ join 1 4 3 ∷ []
   B-forest : forest graphB
@@ -159,7 +159,7 @@ record RuleCases : Type 0 where
   level-before-link : answer nested (ask-links 65 5 6) ≡ refuse 10 0
   no-such-link : answer nested (ask-links 64 5 6) ≡ refuse 11 0
 
-rule-cases : RuleCases
+pub rule-cases : RuleCases
 unfolding kite twoApart nested graphB triangle pair file headOnly accounts graphOf forest groups index rows bodyLength readLinks readBack answer
 rule-cases = record {
   equal-weights = refl;

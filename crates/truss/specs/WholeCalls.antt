@@ -7,7 +7,7 @@ use Rattle.truss.specs.Call.{build, read, ask, askBytes, done}
 use Rattle.truss.specs.Listing.{lister, builder}
 use Rattle.truss.specs.Cards.{pair, file, headOnly, accounts, pairsA, indexA, indexB, indexT}
 
-record WholeCalls : Type 0 where
+pub record WholeCalls : Type 0 where
   -- build: the index over the front of the buffer, the bytes after it stay; 12 only for a buffer that is too short, after 1 to 6
   build-tail : build (headOnly 1) (9 ∷ 9 ∷ 9 ∷ 9 ∷ 9 ∷ 9 ∷ 9 ∷ []) ≡ record { reply = done 6; buffer = 1 ∷ 0 ∷ 1 ∷ 0 ∷ 0 ∷ 5 ∷ 9 ∷ [] }
   build-exact : build (headOnly 1) (9 ∷ 9 ∷ 9 ∷ 9 ∷ 9 ∷ 9 ∷ []) ≡ record { reply = done 6; buffer = 1 ∷ 0 ∷ 1 ∷ 0 ∷ 0 ∷ 5 ∷ [] }
@@ -48,7 +48,7 @@ record WholeCalls : Type 0 where
   builder-A : builder (writeLinks 5 pairsA) ≡ indexA
   builder-refused : builder (file 5 1 (pair 3 3 ∷ []) (5 ∷ [])) ≡ 0x72 ∷ 0x65 ∷ 0x66 ∷ 0x75 ∷ 0x73 ∷ 0x65 ∷ 0x64 ∷ 0x20 ∷ 0x35 ∷ 0x20 ∷ 0x35 ∷ 0x0A ∷ []
 
-whole-calls : WholeCalls
+pub whole-calls : WholeCalls
 unfolding indexT indexB indexA pairsA pair file headOnly accounts writeLinks build read ask askBytes lister builder
 whole-calls = record {
   build-tail = refl;
