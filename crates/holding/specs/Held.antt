@@ -1,32 +1,28 @@
 -- Which groups hold the account of a rank: those named by its links, and all above them. Assumes nothing.
 use mathlib.Core.Path.{_≡_, refl, sym, ap, _∙_, subst}
-use mathlib.Core.Logic.{_⊎_, inl, inr, _≢_}
+use mathlib.Core.Logic.{_⊎_, inl, inr}
 use mathlib.Core.Bool.{Bool, true, false, _||_}
 use mathlib.Core.List.{List}
 use mathlib.Core.List.{List·Memᴰ as In}
 use Prim.Native.Nat.{ℕ, zero, suc, _+_, _*_, _≤_, _<_}
-use native.Mathlib.Nat.{le-refl}
 use native.Mathlib.Omega.{arith}
 use lib.Dec.{eqb}
-use lib.ListN.{length, getD}
+use lib.ListN.{length}
 use borrow.Author.Tests.{eq-eqb, eqb-true}
-use Rattle.truss.specs.Limits.{noGroup}
 use Rattle.truss.specs.Lists.{any, all}
-use Rattle.truss.specs.Graph.{Graph, Link, linkAt, ends}
-use Rattle.truss.specs.Group.{Group, groups}
+use Rattle.truss.specs.Graph.{Graph, linkAt, ends}
+use Rattle.truss.specs.Group.{groups}
 use Rattle.truss.specs.Index.{index}
-use Rattle.truss.specs.Stored.{Leads, up, rowAt, groupRowAt}
+use Rattle.truss.specs.Stored.{Leads, up}
 use Rattle.truss.specs.Stored.{here as arrived}
 use Rattle.truss.specs.Question.{holds, holdsAll, accountsIn}
-use Rattle.laws.proofs.Lists.{test, or-cases}
+use Rattle.laws.proofs.Lists.{or-cases}
 use Rattle.laws.proofs.Members.{any-in, in-any}
 use Rattle.laws.proofs.Sets.{all-in, in-all}
-use Rattle.laws.proofs.Proper.{Proper}
-use Rattle.laws.proofs.Groups.{size, strengthAt}
+use Rattle.laws.proofs.Groups.{size}
 use Rattle.laws.proofs.Stored.{groupCount, stored, stored-in}
-use Rattle.laws.proofs.Tree.{own, group-rows-length, leads-holds, holds-leads, own-holds}
+use Rattle.laws.proofs.Tree.{group-rows-length, leads-holds, holds-leads, own-holds}
 use Rattle.stored.specs.Rows.{graphIn, IsIndex, ownGroup, parentOf, proper, fits-groups, own-same}
-use Rattle.holding.specs.Marks.{Marks}
 use Rattle.holding.specs.Ranks.{rankIn, Ranks, Before, in-before, before-in}
 
 -- one of the first i links names the group and has an end of rank c + 1

@@ -1,11 +1,9 @@
 -- A column of marks. Assumes nothing.
-use mathlib.Core.Path.{_≡_, refl, sym, ap, _∙_}
+use mathlib.Core.Path.{_≡_, sym, ap, _∙_}
 use mathlib.Core.Logic.{_⊎_, inl, inr, _≢_}
-use mathlib.Core.List.{List}
-use Prim.Native.Nat.{ℕ, _+_, _≤_, _<_}
+use Prim.Native.Nat.{ℕ, _≤_, _<_}
 use native.Mathlib.Omega.{arith}
 use Rattle.laws.proofs.Numbers.{same-or-not}
-use Rattle.columns.specs.Columns.{cell}
 use Rattle.columns.specs.Laws.{Upd}
 
 -- f marks the numbers below count that have P: it is 0 at the others

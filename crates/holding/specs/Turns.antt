@@ -1,27 +1,27 @@
 -- The turns of the loops that rank accounts and mark groups. Assumes nothing.
 use mathlib.Core.Path.{_≡_, refl, sym, ap, _∙_, subst}
 use mathlib.Core.Logic.{_⊎_, inl, inr, _≢_}
-use mathlib.Core.Bool.{true, false}
+use mathlib.Core.Bool.{true}
 use mathlib.Core.List.{List}
 use mathlib.Core.List.{List·Memᴰ as In}
-use Prim.Native.Nat.{ℕ, zero, suc, _+_, _*_, _-_, _≤_, _<_}
+use Prim.Native.Nat.{ℕ, zero, _+_, _*_, _-_, _≤_, _<_}
 use native.Mathlib.Omega.{arith}
-use lib.ListN.{length, getD, set}
+use lib.ListN.{length, set}
 use Rattle.truss.specs.Limits.{minLevel, noGroup}
 use Rattle.truss.specs.Record.{fieldAt}
-use Rattle.truss.specs.Graph.{Graph, linkAt, graphOf}
+use Rattle.truss.specs.Graph.{Graph, linkAt}
 use Rattle.truss.specs.Question.{accountsIn, holdsAll}
 use Rattle.laws.proofs.Numbers.{same-or-not}
 use Rattle.laws.proofs.Members.{getD-in, in-member}
 use Rattle.laws.proofs.Groups.{size, strengthAt}
 use Rattle.laws.proofs.Stored.{groupCount, stored}
 use Rattle.laws.proofs.Tree.{parent-rises}
-use Rattle.columns.specs.Columns.{cell, store, COLUMNS}
+use Rattle.columns.specs.Columns.{cell, store}
 use Rattle.columns.specs.Laws.{Upd, Same, upd-store, same-store, length-store, kept-column}
 use Rattle.columns.specs.Wiping.{Wiping}
 use Rattle.stored.specs.Rows.{graphIn, IsIndex, GroupsAt, Shape, ownGroup, parentOf, proper, fits-groups, few, few-links, few-accounts, parent-cases, own-cases}
-use Rattle.holding.specs.Marks.{Marks, marks-none, marks-as, marks-set, marks-clear}
-use Rattle.holding.specs.Ranks.{rankIn, Before, NoRanks, Ranks, ranks-again, ranks-new, before-in, in-before}
+use Rattle.holding.specs.Marks.{Marks, marks-none, marks-as, marks-set}
+use Rattle.holding.specs.Ranks.{rankIn, Before, Ranks, ranks-again, ranks-new, before-in}
 use Rattle.holding.specs.Held.{Own, HeldBy, Lifted, lifted-held, held-lifted, all-held, held-all}
 
 -- ---- ranks

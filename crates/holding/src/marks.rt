@@ -1,6 +1,6 @@
 // Marks of groups, a column for each rank.
 ghost use mathlib.Core.Path.{_≡_};
-ghost use Prim.Native.Nat.{ℕ, _+_, _*_, _<_, _≤_};
+ghost use Prim.Native.Nat.{_+_, _*_, _<_, _≤_};
 ghost use lib.ListN.{length};
 ghost use Rattle.columns.specs.Wiping.{Wiping};
 ghost use Rattle.holding.specs.Turns.{Clear, HoldAsks, HoldGives, LiftAll, LiftGiven, LiftGives, LiftOne, Marked, MarkGiven, MeetAll, MeetOne, Meets, OwnMarks};

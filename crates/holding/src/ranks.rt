@@ -1,8 +1,7 @@
 // Ranks of the named accounts: 1, 2, .. by first naming, so that a repeat changes nothing; 0 for every other account.
-ghost use mathlib.Core.Path.{_≡_};
-ghost use Prim.Native.Nat.{ℕ, _+_, _*_, _<_, _≤_};
+ghost use Prim.Native.Nat.{_+_, _*_, _<_, _≤_};
 ghost use lib.ListN.{length};
-ghost use Rattle.holding.specs.Ranks.{NoRanks, Ranks, Before};
+ghost use Rattle.holding.specs.Ranks.{NoRanks};
 ghost use Rattle.holding.specs.Turns.{Names, RankedOne, RankState};
 use wire::field_at;
 

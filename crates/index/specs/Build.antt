@@ -1,6 +1,6 @@
 -- The build's promise, and the ways to it. Assumes nothing.
-use mathlib.Core.Path.{_≡_, refl, sym, ap, _∙_, subst}
-use mathlib.Core.Logic.{_⊎_, inl, inr, _≢_}
+use mathlib.Core.Path.{_≡_, refl, sym, ap, _∙_}
+use mathlib.Core.Logic.{_≢_}
 use mathlib.Core.List.{List, [], _++_}
 use mathlib.Core.List.{List·Memᴰ·not-nil as in-nil}
 use Prim.Native.Nat.{ℕ, _+_, _*_, _≤_, _<_}
@@ -10,13 +10,13 @@ use lib.ListN.{length, drop}
 use borrow.Author.Tests.{lt-ltb, le-ltb, eq-eqb, ne-eqb}
 use Rattle.truss.specs.Graph.{Pair, graphOf}
 use Rattle.truss.specs.Refusal.{Refusal, Checked, passed, refused, refuse, andThen, mapPassed}
-use Rattle.truss.specs.LinksFile.{Head, Links, accepted, readHead, readPairs, readLinks}
-use Rattle.truss.specs.Index.{encode, index, indexBytes}
-use Rattle.truss.specs.Call.{Reply, Written, done, notDone, write, checkRoom, indexOf, build}
+use Rattle.truss.specs.LinksFile.{Links, accepted, readHead, readPairs, readLinks}
+use Rattle.truss.specs.Index.{encode, indexBytes}
+use Rattle.truss.specs.Call.{Reply, Written, done, notDone, write, checkRoom, build}
 use Rattle.laws.proofs.Accepted.{head-good, read-named, read-good}
 use Rattle.columns.specs.Named.{Named}
 use Rattle.wire.specs.Writing.{written, written-start}
-use Rattle.linksfile.specs.Load.{LoadAsks, LoadGives, faultOf, forget}
+use Rattle.linksfile.specs.Load.{faultOf, forget}
 use Rattle.indexfile.specs.Rows.{indexIn}
 use Rattle.indexfile.specs.Same.{whole-length}
 use Rattle.index.specs.declared.Reply.{Reply as CReply}

@@ -2,23 +2,23 @@
 use mathlib.Core.Path.{_≡_, refl, sym, ap, ap₂, _∙_, subst}
 use mathlib.Core.Logic.{_⊎_, inl, inr, _≢_}
 use mathlib.Core.Bool.{Bool, true, false}
-use mathlib.Core.List.{List, [], _∷_, _++_, map, append-assoc}
+use mathlib.Core.List.{List, _++_, map, append-assoc}
 use mathlib.Core.List.{List·Memᴰ as In}
-use Prim.Native.Nat.{ℕ, zero, suc, _+_, _*_, _-_, _≤_, _<_, min, max}
+use Prim.Native.Nat.{ℕ, zero, suc, _+_, _*_, _-_, _≤_, _<_}
 use native.Mathlib.Omega.{arith}
 use lib.Dec.{eqb, leb, ltb}
 use lib.ListN.{length, getD, length-map, drop, length-append}
 use lib.Seq.{ext-getD}
 use borrow.Author.Tests.{lt-ltb, le-ltb, leb-true}
 use Rattle.laws.proofs.Lists.{and-right}
-use Rattle.truss.specs.Lists.{range, concatMap}
-use Rattle.truss.specs.Graph.{Link, Pair, Graph, link, linkOf, linkAt, graphOf}
-use Rattle.truss.specs.Refusal.{Refusal, Checked, passed, refused, refuse, andThen, mapPassed}
+use Rattle.truss.specs.Lists.{range}
+use Rattle.truss.specs.Graph.{Pair, Graph, link, linkOf, graphOf}
+use Rattle.truss.specs.Refusal.{Checked, passed, refused, refuse, andThen, mapPassed}
 use Rattle.truss.specs.Record.{kindHead, kindStrongLink, bodyLength, holdsBody, byteAt, fieldAt, headBytes, endBytes, whole}
 use Rattle.truss.specs.LinksFile.{Head, readHead, pairBytes, writeLinks, lowerFirst, pairsOf, readBack}
 use Rattle.truss.specs.Index.{Index as IndexRows, encode, index, indexBytes}
 use Rattle.truss.specs.IndexFile.{IsIndexOf, readIndex}
-use Rattle.truss.specs.Call.{Reply, Written, done, notDone, write, checkRoom, read}
+use Rattle.truss.specs.Call.{Written, done, write, checkRoom, read}
 use Rattle.laws.proofs.Members.{map-in, in-map, range-in, in-range, range-length, Sorted}
 use Rattle.laws.proofs.Sets.{map-range-at, map-at}
 use Rattle.laws.proofs.Accepted.{GoodPairs, GoodHead, head-good, read-named, graph-size}
@@ -27,7 +27,6 @@ use Rattle.laws.proofs.Reading.{write-read, read-index, refused-7, graph-again}
 use Rattle.laws.proofs.Numbers.{same-or-not}
 use Rattle.columns.specs.Columns.{cell, store}
 use Rattle.columns.specs.Laws.{stored, kept-entry, length-store}
-use Rattle.columns.specs.Named.{Named}
 use Rattle.wire.specs.Writing.{Tells, written, written-start, upTo, upTo-rows, upTo-length}
 use Rattle.linksfile.specs.SortedLinks.{Row, row-named}
 use Rattle.linksfile.specs.Records.{keyOf}
@@ -37,7 +36,7 @@ use Rattle.index.specs.declared.Opening.the-variants.{NoIndex, Index}
 use Rattle.index.specs.Build.{Replies, replied, replyIn, reply-with, reply-same}
 use Rattle.indexfile.specs.Rows.{joinIn, groupIn, indexIn}
 use Rattle.index.specs.Solved.{SolveAsks, Solved}
-use Rattle.index.specs.Strong.{strongPair, strongKey, strongPlace, Strong, AllStrong, all-strong, index-head, first-is, second-is}
+use Rattle.index.specs.Strong.{strongPair, strongKey, Strong, AllStrong, all-strong, index-head, first-is, second-is}
 
 -- THE PROMISE of a reading: its reply and every byte of the lent buffer are what the definition gives
 abbrev pub ReadGives : List ℕ → List ℕ → CReply → List ℕ → Type 0

@@ -1,24 +1,24 @@
 -- A solved work space holds the index of its graph. Assumes nothing.
-use mathlib.Core.Path.{_≡_, refl, sym, ap, _∙_, subst}
+use mathlib.Core.Path.{_≡_, sym, ap, _∙_}
 use mathlib.Core.List.{List, map}
 use Prim.Native.Nat.{ℕ, _+_, _*_, _/_, _%_, _≤_, _<_}
 use native.Mathlib.Omega.{arith}
 use lib.ListN.{length, getD, length-map}
 use lib.Seq.{ext-getD}
-use Rattle.truss.specs.Limits.{maxAccounts, maxLinks, noGroup}
+use Rattle.truss.specs.Limits.{noGroup}
 use Rattle.truss.specs.Lists.{range}
-use Rattle.truss.specs.Graph.{Link, Pair, Graph, graphOf, linkAt}
+use Rattle.truss.specs.Graph.{Pair, Graph, graphOf, linkAt}
 use Rattle.truss.specs.Strength.{strength}
 use Rattle.truss.specs.Forest.{Join, join, forest}
 use Rattle.truss.specs.Group.{groups}
-use Rattle.truss.specs.Index.{Index, LinkRow, GroupRow, index, linkRow}
-use Rattle.truss.specs.Stored.{rowAt, joinAt, groupRowAt}
+use Rattle.truss.specs.Index.{LinkRow, GroupRow, index, linkRow}
+use Rattle.truss.specs.Stored.{rowAt, groupRowAt}
 use Rattle.laws.proofs.Proper.{Proper}
 use Rattle.laws.proofs.Members.{range-length, getD-in}
 use Rattle.laws.proofs.Sets.{map-range-at}
 use Rattle.laws.proofs.Groups.{size}
 use Rattle.laws.proofs.Tree.{rows-length, row-at, group-rows-length}
-use Rattle.laws.proofs.Accepted.{GoodPairs, graph-size}
+use Rattle.laws.proofs.Accepted.{graph-size}
 use Rattle.laws.proofs.Accepted.{Named as Accepted}
 use Rattle.laws.proofs.Agree.{index-fits}
 use Rattle.laws.proofs.Bytes.{SmallRows, index-small}

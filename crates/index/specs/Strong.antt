@@ -1,22 +1,21 @@
 -- The strong links of an index, read at their places: what the reader checks of them, that every index passes, and the graph that they name. Assumes nothing.
-use mathlib.Core.Path.{_≡_, refl, sym, ap, ap₂, _∙_, subst}
-use mathlib.Core.Logic.{_⊎_, inl, inr, _≢_}
-use mathlib.Core.Bool.{true, false, _&&_}
-use mathlib.Core.List.{List, [], _∷_, _++_, map, append-assoc}
-use mathlib.Core.List.{List·Memᴰ as In, List·Memᴰ·not-nil as in-nil}
-use Prim.Native.Nat.{ℕ, zero, suc, _+_, _*_, _/_, _%_, _≤_, _<_}
+use mathlib.Core.Path.{_≡_, refl, sym, ap, ap₂, _∙_}
+use mathlib.Core.Logic.{_⊎_, inl, inr}
+use mathlib.Core.Bool.{true, _&&_}
+use mathlib.Core.List.{List, _++_, map}
+use Prim.Native.Nat.{ℕ, _+_, _*_, _≤_, _<_}
 use native.Mathlib.Omega.{arith}
 use lib.Dec.{eqb, leb, ltb}
-use lib.ListN.{length, getD, length-append, length-map, List·getD-append}
-use lib.Seq.{ext-getD, getD-append-add}
+use lib.ListN.{length, getD, length-append, length-map}
+use lib.Seq.{ext-getD}
 use borrow.Author.Tests.{eq-eqb, ne-eqb, le-leb, le-ltb, ltb-true, eqb-true}
 use Rattle.truss.specs.Limits.{maxAccounts, maxLinks, noGroup}
 use Rattle.truss.specs.Lists.{concatMap, range}
-use Rattle.truss.specs.Graph.{Link, Pair, Graph, link, linkOf, linkBefore, graphOf, linkAt, member}
+use Rattle.truss.specs.Graph.{Link, Pair, Graph, link, linkBefore, graphOf, linkAt, member}
 use Rattle.truss.specs.Refusal.{passed}
 use Rattle.truss.specs.Record.{kindIndexHead, kindHead, kindStrongLink, bodyLength, holdsBody, byteAt, fieldAt, headBytes, endBytes, whole}
-use Rattle.truss.specs.LinksFile.{Head, readHead, lowerFirst, pairsOf}
-use Rattle.truss.specs.Index.{Index, LinkRow, linkBytes, joinBytes, groupBytes, encode, index, indexBytes, linkRow}
+use Rattle.truss.specs.LinksFile.{readHead}
+use Rattle.truss.specs.Index.{LinkRow, linkBytes, joinBytes, groupBytes, encode, index, indexBytes, linkRow}
 use Rattle.truss.specs.Stored.{rowAt}
 use Rattle.laws.proofs.Lists.{both, and-left, and-right, or-cases}
 use Rattle.laws.proofs.Members.{range-length, getD-in, in-member}
@@ -25,9 +24,8 @@ use Rattle.laws.proofs.Proper.{Proper}
 use Rattle.laws.proofs.Groups.{size}
 use Rattle.laws.proofs.Tree.{rows-length, row-at}
 use Rattle.laws.proofs.Decoding.{field-back}
-use Rattle.laws.proofs.Accepted.{GoodPairs, GoodHead, head-good, graph-size, graph-proper}
+use Rattle.laws.proofs.Accepted.{graph-size, graph-proper}
 use Rattle.laws.proofs.Accepted.{Named as Accepted}
-use Rattle.laws.proofs.Agree.{index-fits}
 use Rattle.laws.proofs.InOrder.{graph-in-order}
 use Rattle.wire.specs.Writing.{upTo, upTo-rows, upTo-length}
 use Rattle.indexfile.specs.Comparing.{row-byte}

@@ -1,15 +1,13 @@
 // From a links file to its index.
 ghost use mathlib.Core.List.{_++_};
 ghost use mathlib.Core.Path.{_≡_};
-ghost use Prim.Native.Nat.{ℕ, _+_, _*_, _<_, _≤_};
+ghost use Prim.Native.Nat.{_+_, _*_, _<_, _≤_};
 ghost use lib.ListN.{length};
 ghost use Rattle.linksfile.specs.Load.{LoadAsks, ScanAsks};
 ghost use Rattle.index.specs.Solved.{SolveGiven, SolveGives};
-ghost use Rattle.truss.specs.LinksFile.{pairBytes, readHead};
 ghost use Rattle.truss.specs.Record.{endBytes, headBytes, kindHead};
 ghost use Rattle.wire.specs.Writing.{upTo, written};
 ghost use Rattle.index.specs.Build.{BuildGives, FinishGives, Replies, replied};
-ghost use Rattle.index.specs.Strong.{strongPair};
 ghost use Rattle.index.specs.Read.{OpenGives, openingOf, KeysRead, NextKey, ReadGives, StrongFit, backBytes};
 use columns::put;
 use groups::tree::Sizes;

@@ -1,11 +1,11 @@
 -- What the columns of a solved work space say as an index: 0 keys, 4 strengths, 8 groups of links; 9 joins, 10 their weights; 11 to 13 the groups' strengths,
 -- parents and least links. Assumes nothing.
-use mathlib.Core.Path.{_≡_, refl, sym, ap, _∙_}
-use mathlib.Core.List.{List, [], _∷_, _++_, map, append-assoc}
+use mathlib.Core.Path.{_≡_, sym}
+use mathlib.Core.List.{List, _++_, map, append-assoc}
 use Prim.Native.Nat.{ℕ, _+_, _*_, _/_, _%_, _≤_, _<_}
 use native.Mathlib.Omega.{arith}
 use lib.ListN.{length}
-use Rattle.truss.specs.Lists.{concatMap, range}
+use Rattle.truss.specs.Lists.{range}
 use Rattle.truss.specs.Forest.{Join}
 use Rattle.truss.specs.Record.{kindIndexHead, headBytes, endBytes}
 use Rattle.truss.specs.Index.{LinkRow, GroupRow, Index, linkBytes, joinBytes, groupBytes, encode}

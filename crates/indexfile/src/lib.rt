@@ -1,6 +1,6 @@
 // The index's bytes: written from the columns of a solved work space, each part straight after the part before it, and compared with them record by record.
 ghost use mathlib.Core.Path.{_≡_};
-ghost use Prim.Native.Nat.{ℕ, _+_, _*_, _<_, _≤_};
+ghost use Prim.Native.Nat.{_+_, _*_, _<_, _≤_};
 ghost use lib.ListN.{length, take};
 ghost use Rattle.truss.specs.Index.{encode};
 ghost use Rattle.columns.specs.Columns.{cell};

@@ -120,9 +120,6 @@ triangular-double (suc d) = let r = triangular-double d in omega arith
 
 -- ---- degrees
 
-le-same : {a b : ℕ} → a ≡ b → a ≤ b
-le-same q = omega arith
-
 not-pos : {x : ℕ} → 0 < x → x ≡ 0 → ⊥
 not-pos h q = omega arith
 

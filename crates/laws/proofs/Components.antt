@@ -7,7 +7,7 @@ use mathlib.Core.List.{List·Memᴰ as In, List·Memᴰ·head as here, List·Mem
 use Prim.Native.Nat.{ℕ, _≤_, _<_, min, max}
 use native.Mathlib.Omega.{arith}
 use lib.Dec.{eqb, leb}
-use lib.ListN.{length, getD, length-map, List·getD-map}
+use lib.ListN.{getD, List·getD-map}
 use borrow.Author.Tests.{eqb-true, eqb-false, eq-eqb, ne-eqb, leb-true, leb-false, lt-leb}
 use Rattle.truss.specs.Lists.{filter, range}
 use Rattle.truss.specs.Forest.{Join, singletons, merge, sameComponent, kruskal, components}
@@ -66,10 +66,6 @@ module _ (i j : ℕ) (labels : List ℕ) where
   unfolding merge relabel low high
   label-merge a = subst (λ (d : ℕ). getD (map (relabel low high) labels) a d ≡ relabel low high (label labels a)) relabel-zero
       (List·getD-map (relabel low high) labels a 0)
-
-  pub merge-length : length (merge i j labels) ≡ length labels
-  unfolding merge
-  merge-length = length-map labels _
 
   -- points together stay together
   pub merge-keeps : (a b : ℕ) → Same labels a b → Same (merge i j labels) a b

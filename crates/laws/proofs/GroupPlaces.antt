@@ -9,7 +9,7 @@ use Prim.Native.Nat.{ℕ, zero, suc, _+_, _≤_, _<_}
 use native.Mathlib.Nat.{le-refl}
 use native.Mathlib.Omega.{arith}
 use lib.Dec.{eqb, ltb, leb}
-use lib.ListN.{length, getD}
+use lib.ListN.{getD}
 use borrow.Author.Tests.{eqb-true, eqb-false, ltb-true, ltb-false, lt-leb}
 use Rattle.truss.specs.Limits.{minLevel, noGroup}
 use Rattle.truss.specs.Lists.{filter, range}
@@ -17,19 +17,18 @@ use Rattle.truss.specs.Graph.{Graph, linkNumber, linkAt}
 use Rattle.truss.specs.Strength.{strength}
 use Rattle.truss.specs.Forest.{Join, allJoins, singletons, sameComponent, merge, components}
 use Rattle.truss.specs.Group.{Group, leastLink, labelsAt, groupAt, groups}
-use Rattle.truss.specs.Index.{LinkRow, GroupRow, index, linkRow, groupRow}
+use Rattle.truss.specs.Index.{LinkRow, index, linkRow}
 use Rattle.truss.specs.Stored.{rowAt, groupRowAt}
-use Rattle.laws.proofs.Proper.{Proper}
-use Rattle.laws.proofs.Lists.{test, true-not-false}
-use Rattle.laws.proofs.Members.{Sorted, filter-in, range-at}
+use Rattle.laws.proofs.Lists.{test}
+use Rattle.laws.proofs.Members.{filter-in}
 use Rattle.laws.proofs.Sets.{sorted-at}
 use Rattle.laws.proofs.Peeling.{strength-at-most}
-use Rattle.laws.proofs.Components.{label, Same, sameComponent-same, same-sameComponent, heavy}
+use Rattle.laws.proofs.Components.{label, sameComponent-same, same-sameComponent, heavy}
 use Rattle.laws.proofs.Size.{Roots, singletons-roots, merge-roots}
-use Rattle.laws.proofs.Groups.{size, strengthAt, groupAt-eq, group-in, in-group, group-self, group-rebase}
-use Rattle.laws.proofs.Stored.{noSuchGroup, groupCount, stored, stored-at, stored-in, stored-number, stored-distinct, stored-exact, few-groups}
+use Rattle.laws.proofs.Groups.{size, strengthAt, groupAt-eq, in-group, group-self, group-rebase}
+use Rattle.laws.proofs.Stored.{noSuchGroup, groupCount, stored, stored-at, stored-in, stored-distinct, stored-exact, few-groups}
 use Rattle.laws.proofs.GroupOrder.{Before, stronger, earlier, groups-sorted}
-use Rattle.laws.proofs.Tree.{own, own-is, own-strength, number-is, is-number, row-at, group-row-at, parent-next, parent-none}
+use Rattle.laws.proofs.Tree.{own, own-is, own-strength, number-is, is-number, row-at, parent-next, parent-none}
 use Rattle.laws.proofs.Sides.{InOrder, at-link, join-of, JoinOf, first-two, outer-two, last-two}
 
 -- ---- labels are least links

@@ -21,7 +21,7 @@ use Rattle.laws.proofs.Members.{Sorted, filter-in, in-filter, range-in,
 use Rattle.laws.proofs.Chains.{at-least-strength, joined-sym, joined-first}
 use Rattle.laws.proofs.Components.{Same, sameComponent-same, same-sameComponent, components-joins, components-least, singletons-alone, heavy}
 use Rattle.laws.proofs.Connected.{heavyJoins, heavy-from, same-joined, has-member}
-use Rattle.laws.proofs.Sets.{filter-sub-whole, same-list-eq, eq-same-list}
+use Rattle.laws.proofs.Sets.{same-list-eq, eq-same-list}
 
 module _ (G : Graph) where
   -- the number of links, and the strength of a link by its number
@@ -106,15 +106,6 @@ module _ (G : Graph) where
   pub group-down : (k k′ i : ℕ) {j : ℕ} → k ≤ k′ → i < size → In j (groupAt G k′ i) → In j (groupAt G k i)
   group-down k k′ i {j} l li m =
       let r = group-in k′ i m in in-group k i (omega (arith, r .0)) (r .1) (same-down k k′ l i j li (r .1) (r .2))
-
-  -- a larger k whose group is no smaller has the same group
-  pub group-same-down : (k k′ i : ℕ) → k ≤ k′ → i < size → k′ ≤ strengthAt i → length (groupAt G k i) ≤ length (groupAt G k′ i) → groupAt G k′ i ≡ groupAt G k i
-  group-same-down k k′ i l li s h =
-      groupAt-eq k′ i s
-      ∙ filter-sub-whole (sameComponent (labelsAt G k′) i) (sameComponent (labelsAt G k) i) (range 0 size)
-      (λ j m t. same-sameComponent (labelsAt G k) i j (same-down k k′ l i j li (omega (arith, range-in 0 size m .1)) (sameComponent-same (labelsAt G k′) i j t)))
-      (rw (groupAt-eq k i (omega arith), groupAt-eq k′ i s) at h)
-      ∙ sym (groupAt-eq k i (omega arith))
 
 -- ---- the stored groups
 

@@ -1,13 +1,10 @@
 -- The links of an accepted file's graph are in order, each once.
-use mathlib.Core.Path.{_≡_, refl, sym, ap, _∙_}
+use mathlib.Core.Path.{_≡_}
 use mathlib.Core.Logic.{_⊎_, inl, inr, _≢_}
 use mathlib.Core.Bool.{true, false}
 use mathlib.Core.List.{List, map}
 use Prim.Native.Nat.{ℕ, _<_}
-use native.Mathlib.Omega.{arith}
-use Rattle.truss.specs.Lists.{sort}
-use Rattle.truss.specs.Graph.{Link, Pair, Graph, link, linkOf, linksOf, linkBefore, linkAt, graphOf}
-use Rattle.laws.proofs.Proper.{Proper}
+use Rattle.truss.specs.Graph.{Link, Pair, link, linkOf, linksOf, linkBefore, linkAt, graphOf}
 use Rattle.laws.proofs.Lists.{test}
 use Rattle.laws.proofs.Members.{sort-sorted}
 use Rattle.laws.proofs.Sets.{sorted-at}

@@ -5,21 +5,21 @@ use mathlib.Core.Bool.{Bool, true, false, _&&_, _||_}
 use mathlib.Core.List.{List, [], _∷_, map}
 use mathlib.Core.List.{List·Memᴰ as In, List·Memᴰ·head as here, List·Memᴰ·tail as there, List·Memᴰ·not-nil as in-nil, List·Memᴰ·cases-cons as in-cons}
 use Prim.Native.Nat.{ℕ, zero, suc, _≤_, _<_, min, max}
-use native.Mathlib.Nat.{le-refl, le-trans}
+use native.Mathlib.Nat.{le-trans}
 use native.Mathlib.Omega.{arith}
 use lib.Dec.{eqb, ltb}
-use borrow.Author.Tests.{eqb-true, eqb-false, ltb-true, ltb-false, le-ltb}
+use borrow.Author.Tests.{eqb-true, eqb-false, ltb-true, ltb-false}
 use Rattle.truss.specs.Lists.{filter, range, concatMap}
 use Rattle.truss.specs.Graph.{Link, Graph, Triangle, IsTriangle, sideAB, sideAC, sideBC, member, linkNumber, triangles, trianglesOn}
 use Rattle.truss.specs.Strength.{weight}
 use Rattle.truss.specs.Forest.{Join, join, joinBefore, triangleJoins, allJoins}
 use Rattle.laws.proofs.Proper.{Proper}
-use Rattle.laws.proofs.Lists.{test, and-left, and-right, or-cases, or-left-false, or-right-false, true-not-false}
-use Rattle.laws.proofs.Members.{Sorted, map-in, range-in, concatMap-in, sort-sorted, link-of-number}
+use Rattle.laws.proofs.Lists.{test, and-left, and-right, or-cases, or-left-false, or-right-false}
+use Rattle.laws.proofs.Members.{map-in, range-in, concatMap-in, link-of-number}
 use Rattle.laws.proofs.Sets.{sorted-append}
 use Rattle.laws.proofs.Connected.{triangles-in}
 use Rattle.laws.proofs.Stored.{filter-sorted}
-use Rattle.laws.proofs.Ordering.{Distinct, sort-distinct, sorted-unique}
+use Rattle.laws.proofs.Ordering.{Distinct, sort-distinct}
 
 -- ---- lists without repeats
 
@@ -322,29 +322,3 @@ before-no x y h = go (test (eqb (x .weight) (y .weight)))
     go : (eqb (x .weight) (y .weight) ≡ true) ⊎ (eqb (x .weight) (y .weight) ≡ false) → NotAfter y x
     go (inl c) = let t : tie x y ≡ false = rw c at second in low (eqb-true (x .weight) (y .weight) c) t (test (eqb (x .lower) (y .lower)))
     go (inr c) = let d : x .weight ≢ y .weight = eqb-false (x .weight) (y .weight) c in heavier (omega (arith, ltb-false (y .weight) (x .weight) first))
-
-before-different : (x y : Join) → joinBefore x y ≡ true → x ≢ y
-before-different x y h q = true-not-false h (rw q (no (y .weight) (y .lower) (y .higher)))
-  where
-    no : (w l k : ℕ) → (ltb w w || (eqb w w && (ltb l l || (eqb l l && ltb k k)))) ≡ false
-    no w l k = rw (le-ltb w w (le-refl w), le-ltb l l (le-refl l), le-ltb k k (le-refl k)) (third (eqb w w) (eqb l l))
-      where
-        third : (a b : Bool) → (a && (b && false)) ≡ false
-        third true true = refl
-        third true false = refl
-        third false b = refl
-
-pub sorted-map : {A : Type 0} (R S : A → A → Type 0) → ((x y : A) → R x y → S x y) → (xs : List A) → Sorted R xs → Sorted S xs
-sorted-map R S h [] s = tt
-sorted-map R S h (x ∷ xs) s = (λ y m. h x y (s .0 y m), sorted-map R S h xs (s .1))
-
--- a list in the strict order with the joins of the graph is the graph's list
-pub joins-unique : (G : Graph) → Proper G → Distinct (G .links) → (xs : List Join) → Sorted (λ (x y : Join). joinBefore x y ≡ true) xs
-    → ((x : Join) → In x xs → In x (allJoins G)) → ((x : Join) → In x (allJoins G) → In x xs) → xs ≡ allJoins G
-unfolding allJoins
-joins-unique G proper different xs s to back =
-    sorted-unique NotAfter not-after-antisym xs (allJoins G)
-    (sorted-map (λ (x y : Join). joinBefore x y ≡ true) NotAfter before-yes xs s)
-    (sort-sorted joinBefore NotAfter not-after-trans before-yes before-no (concatMap (triangleJoins G) (triangles G)))
-    (sorted-map (λ (x y : Join). joinBefore x y ≡ true) (λ (x y : Join). x ≢ y) before-different xs s)
-    (joins-distinct G proper different) to back

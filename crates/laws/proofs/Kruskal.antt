@@ -2,7 +2,7 @@
 -- A place is written as a join: weight, lower and higher link. `Gone p y`: y stands before p. `Left p y`: it does not.
 use mathlib.Core.Path.{_≡_, refl, sym, ap, _∙_, subst}
 use mathlib.Core.Logic.{_⊎_, inl, inr, _≢_}
-use mathlib.Core.Bool.{Bool, true, false, cond, not, _&&_, _||_}
+use mathlib.Core.Bool.{Bool, true, false, cond, not}
 use mathlib.Core.List.{List, [], _∷_, _++_, append-assoc, append-nil}
 use mathlib.Core.List.{List·Memᴰ as In, List·Memᴰ·head as here, List·Memᴰ·tail as there, List·Memᴰ·not-nil as in-nil, List·Memᴰ·cases-cons as in-cons, List·Memᴰ·append-cases as in-append}
 use Prim.Native.Nat.{ℕ, suc, _+_, _≤_, _<_}
@@ -10,7 +10,7 @@ use native.Mathlib.Nat.{le-refl, le-trans}
 use native.Mathlib.Omega.{arith}
 use lib.Dec.{eqb, ltb, leb}
 use lib.ListN.{length, length-append}
-use borrow.Author.Tests.{eqb-true, eqb-false, ltb-true, ltb-false, eq-eqb, ne-eqb, leb-true, leb-false, le-leb, lt-leb}
+use borrow.Author.Tests.{eqb-true, eqb-false, ltb-true, ltb-false, ne-eqb, le-leb, lt-leb}
 use Rattle.truss.specs.Lists.{filter, concatMap}
 use Rattle.truss.specs.Graph.{Graph, triangles}
 use Rattle.truss.specs.Forest.{Join, joinBefore, triangleJoins, allJoins, singletons, merge, sameComponent, kruskal, components, forest}
@@ -20,7 +20,7 @@ use Rattle.laws.proofs.Members.{Sorted, sort-sorted, filter-none, filte
 use Rattle.laws.proofs.Sets.{filter-same}
 use Rattle.laws.proofs.Ordering.{Distinct}
 use Rattle.laws.proofs.JoinOrder.{joins-distinct}
-use Rattle.laws.proofs.Components.{label, Same, sameComponent-same, same-sameComponent, merge-keeps, merge-ends, heavy, kruskal-in}
+use Rattle.laws.proofs.Components.{label, Same, same-sameComponent, merge-keeps, merge-ends, heavy, kruskal-in}
 use Rattle.laws.proofs.Connected.{forest-labels}
 use Rattle.laws.proofs.Groups.{size}
 use Rattle.laws.proofs.Size.{forest-size}
@@ -337,9 +337,6 @@ module _ (G : Graph) where
       pub room-to-take : 0 < size G → length taken + 1 < size G
       room-to-take pos =
           omega (arith, forest-size G pos, ap length (sym (g .whole)) ∙ length-append taken (kruskal (labelsOf G taken) (filter (from p) (allJoins G))), ap length step)
-
-    pub taken-few : 0 < size G → length taken < size G
-    taken-few pos = omega (arith, forest-size G pos, ap length (sym (g .whole)) ∙ length-append taken (kruskal (labelsOf G taken) (filter (from p) (allJoins G))))
 
     -- where nothing is left, all is taken
     pub grown-all : ((y : Join) → In y (allJoins G) → Gone p y) → taken ≡ forest G

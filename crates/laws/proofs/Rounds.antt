@@ -8,7 +8,7 @@ use native.Mathlib.Omega.{arith}
 use Rattle.truss.specs.Graph.{Link, LinkSet, Graph, member, support}
 use Rattle.truss.specs.Strength.{IsStrength, truss, strength}
 use Rattle.laws.proofs.Lists.{test, true-not-false, support-mono}
-use Rattle.laws.proofs.Peeling.{truss-is, truss-largest, in-truss, truss-in, in-truss-2, strength-is}
+use Rattle.laws.proofs.Peeling.{truss-is, truss-largest, in-truss, truss-in, strength-is}
 use Rattle.laws.proofs.Chains.{truss-down}
 
 module _ (G : Graph) (k : ℕ) where
@@ -37,10 +37,6 @@ module _ (G : Graph) (k : ℕ) where
 -- the next truss lies in the one before, so peeling goes on from it
 pub truss-nested : (G : Graph) (k k′ : ℕ) → k ≤ k′ → (e : Link) → member (truss G k′) e ≡ true → member (truss G k) e ≡ true
 truss-nested G k k′ l e m = truss-largest G k (member (truss G k′)) (truss-down G k k′ (member (truss G k′)) l (truss-is G k′)) e m
-
--- at 2 all links are left
-pub truss-all : (G : Graph) (e : Link) → member (G .links) e ≡ true → member (truss G 2) e ≡ true
-truss-all G e m = in-truss G 2 e (in-truss-2 G e m)
 
 -- a link that goes at suc k and not before has strength k
 pub strength-between : (G : Graph) (k : ℕ) (e : Link) → member (truss G k) e ≡ true → member (truss G (suc k)) e ≡ false → strength G e ≡ k

@@ -1,26 +1,24 @@
 -- The weights of a graph's joins: from 3 to n + 2, and each strength from 3 on is one of them.
 use mathlib.Core.Path.{_≡_, refl, sym, ap, _∙_}
-use mathlib.Core.Logic.{_⊎_, inl, inr, _≢_}
+use mathlib.Core.Logic.{_⊎_, inl, inr}
 use mathlib.Core.Bool.{Bool, true, false, _&&_, _||_}
-use mathlib.Core.List.{List, [], _∷_}
 use mathlib.Core.List.{List·Memᴰ as In, List·Memᴰ·head as here}
 use Prim.Native.Nat.{ℕ, _+_, _≤_, _<_, min, max}
 use native.Mathlib.Nat.{le-refl}
 use native.Mathlib.Omega.{arith}
-use Rattle.truss.specs.Lists.{count, concatMap}
-use Rattle.truss.specs.Graph.{Link, LinkSet, Graph, Triangle, IsTriangle, Has, is-ab, is-ac, is-bc, sideAB, sideAC, sideBC, link, sameLink, member, linkNumber, linkAt, support, triangles}
+use Rattle.truss.specs.Lists.{concatMap}
+use Rattle.truss.specs.Graph.{Link, LinkSet, Graph, Triangle, Has, is-ab, is-ac, is-bc, sideAB, sideAC, link, sameLink, member, linkNumber, linkAt, support, triangles}
 use Rattle.truss.specs.Strength.{IsTruss, strength, weight}
 use Rattle.truss.specs.Chain.{StrongTriangle}
 use Rattle.truss.specs.Forest.{Join, join, joinBefore, triangleJoins, allJoins}
-use Rattle.laws.proofs.Proper.{Proper}
-use Rattle.laws.proofs.Lists.{test, true-not-false, or-cases, both, sameLink-eq, sameLink-refl}
+use Rattle.laws.proofs.Lists.{true-not-false, or-cases, both, sameLink-eq, sameLink-refl}
 use Rattle.laws.proofs.Members.{in-concatMap, in-sort}
 use Rattle.laws.proofs.Peeling.{strength-is, strength-at-most}
-use Rattle.laws.proofs.Chains.{link-ordered, link-swapped, strength-at-least, in-strong-triangle, weight-of-strong}
+use Rattle.laws.proofs.Chains.{link-ordered, strength-at-least, in-strong-triangle, weight-of-strong}
 use Rattle.laws.proofs.Connected.{in-triangles}
 use Rattle.laws.proofs.Groups.{size, strengthAt}
 use Rattle.laws.proofs.Size.{count-fewer}
-use Rattle.laws.proofs.Sides.{InOrder, Sides, sidesWeight, weight-first, at-link, ends-order, JoinOf, join-of}
+use Rattle.laws.proofs.Sides.{InOrder, Sides, sidesWeight, weight-first, at-link, ends-order, join-of}
 
 -- ---- the links of a triangle are a 3-truss
 

@@ -1,8 +1,7 @@
 -- The definitions' checks, one way at a time: what they give where the tests before have passed and this one has not. Assumes nothing.
 use mathlib.Core.Path.{_≡_, refl, sym, ap, _∙_, subst}
 use mathlib.Core.Logic.{_⊎_, inl, inr, _≢_}
-use mathlib.Core.Option.{some}
-use mathlib.Core.Bool.{Bool, true, false, not, _||_, _&&_}
+use mathlib.Core.Bool.{Bool, true, false, not, _||_}
 use mathlib.Core.List.{List}
 use Prim.Native.Nat.{ℕ, _+_, _*_, _≤_, _<_}
 use native.Mathlib.Omega.{arith}
@@ -13,7 +12,7 @@ use Rattle.truss.specs.Limits.{maxAccounts, maxLinks}
 use Rattle.truss.specs.Graph.{link}
 use Rattle.truss.specs.Refusal.{Refusal, Checked, passed, refuse, refuseIf}
 use Rattle.truss.specs.Record.{kindHead, kindEnd, kindPlainLink, bodyLength, holdsBody, byteAt, fieldAt, whole}
-use Rattle.truss.specs.LinksFile.{Head, readHead}
+use Rattle.truss.specs.LinksFile.{readHead}
 use Rattle.laws.proofs.Lists.{and-right}
 use Rattle.laws.proofs.Numbers.{same-or-not}
 use Rattle.columns.specs.Columns.{cell, store}

@@ -1,25 +1,23 @@
 -- A links file whose head is good, loaded: what the scan of its records finds, and what is known after the sort. Assumes nothing.
 use mathlib.Core.Path.{_≡_, refl, sym, ap, _∙_, subst}
 use mathlib.Core.Logic.{_⊎_, inl, inr, _≢_}
-use mathlib.Core.Bool.{Bool, true, false, cond}
+use mathlib.Core.Bool.{cond}
 use mathlib.Core.List.{List, []}
-use mathlib.Core.List.{List·Memᴰ as In, List·Memᴰ·not-nil as in-nil}
-use Prim.Native.Nat.{ℕ, suc, _+_, _*_, _≤_, _<_}
+use mathlib.Core.List.{List·Memᴰ·not-nil as in-nil}
+use Prim.Native.Nat.{ℕ, _*_, _≤_, _<_}
 use native.Mathlib.Omega.{arith}
-use lib.Dec.{eqb, ltb}
+use lib.Dec.{eqb}
 use lib.ListN.{length}
-use borrow.Author.Tests.{eq-eqb, ne-eqb, lt-ltb, le-ltb}
-use Rattle.truss.specs.Limits.{maxAccounts, maxLinks}
+use borrow.Author.Tests.{eq-eqb, ne-eqb}
 use Rattle.truss.specs.Graph.{Pair, linkOf, graphOf}
-use Rattle.truss.specs.Refusal.{Refusal, Checked, passed, refused, refuse, mapPassed}
-use Rattle.truss.specs.LinksFile.{Head, Links, accepted, readHead, readPairs}
-use Rattle.laws.proofs.Numbers.{same-or-not, less-or-not}
-use Rattle.laws.proofs.Accepted.{GoodPairs, GoodHead, head-good, read-good}
+use Rattle.truss.specs.Refusal.{Checked, passed, refused, refuse}
+use Rattle.truss.specs.LinksFile.{Links, accepted, readHead, readPairs}
+use Rattle.laws.proofs.Numbers.{same-or-not}
+use Rattle.laws.proofs.Accepted.{GoodHead, head-good, read-good}
 use Rattle.columns.specs.Columns.{cell}
 use Rattle.columns.specs.Named.{Named}
-use Rattle.sorting.specs.Chains.{lo, hi}
 use Rattle.sorting.specs.Order.{spot, NoRepeat}
-use Rattle.sorting.specs.State.{Keys, Keyed, SortedBy}
+use Rattle.sorting.specs.State.{Keys, SortedBy}
 use Rattle.sorting.specs.Gives.{SortAsks}
 use Rattle.linksfile.specs.Records.{keyOf, placeOf, pairAt, recordAt, endAt, Good, Sound, sound, pairsTo, pairs-length, pairs-in, in-pairs, walk-repeat, walk-fault, walk-end-fault, walk-done}
 use Rattle.linksfile.specs.SortedLinks.{Row, row-named}

@@ -1,20 +1,20 @@
 -- The records of a links file, one by one: the faults 1, 4 and 5 that a record has by itself, the end, and what the walk of document 01 over them gives when
 -- it is known which records repeat an earlier one. Assumes nothing.
-use mathlib.Core.Path.{_≡_, refl, sym, ap, ap₂, _∙_, subst}
+use mathlib.Core.Path.{_≡_, refl, sym, ap, _∙_, subst}
 use mathlib.Core.Logic.{_⊎_, inl, inr, _≢_}
-use mathlib.Core.Bool.{Bool, true, false, cond, not, _||_}
+use mathlib.Core.Bool.{Bool, true, false, not, _||_}
 use mathlib.Core.List.{List, [], _∷_, _++_, map}
-use mathlib.Core.List.{List·Memᴰ as In, List·Memᴰ·head as here, List·Memᴰ·tail as there, List·Memᴰ·not-nil as in-nil, List·Memᴰ·append-cases as in-append, List·Memᴰ·eq-of-singleton as in-single, Memᴰ·append-left as in-left, Memᴰ·append-right as in-right}
-use Prim.Native.Nat.{ℕ, zero, suc, _+_, _*_, _-_, _≤_, _<_, min, max}
+use mathlib.Core.List.{List·Memᴰ as In, List·Memᴰ·head as here, List·Memᴰ·not-nil as in-nil, List·Memᴰ·append-cases as in-append, List·Memᴰ·eq-of-singleton as in-single, Memᴰ·append-left as in-left, Memᴰ·append-right as in-right}
+use Prim.Native.Nat.{ℕ, zero, suc, _+_, _*_, _-_, _≤_, _<_}
 use native.Mathlib.Omega.{arith}
-use lib.Dec.{eqb, ltb, leb}
+use lib.Dec.{eqb, leb}
 use lib.ListN.{length, length-append}
 use borrow.Author.Tests.{leb-false, eqb-false, lt-leb, ne-eqb}
 use Rattle.truss.specs.Graph.{Link, Pair, link, linkOf, member}
 use Rattle.truss.specs.Refusal.{Refusal, Checked, passed, refused, refuse, refuseIf}
 use Rattle.truss.specs.Record.{kindEnd, kindPlainLink, bodyLength, holdsBody, fieldAt, whole}
 use Rattle.truss.specs.LinksFile.{Links, accepted, readPairs}
-use Rattle.laws.proofs.Lists.{test, or-left-false, or-right-false, true-not-false}
+use Rattle.laws.proofs.Lists.{test, or-left-false, or-right-false}
 use Rattle.laws.proofs.Members.{map-in, in-map, member-in, in-member}
 use Rattle.laws.proofs.Accepted.{not-refused}
 use Rattle.laws.proofs.Reading.{read-step}

@@ -1,21 +1,17 @@
 -- Keys of different pairs, in rising order, name the graph of those pairs. Assumes nothing.
 use mathlib.Core.Path.{_≡_, refl, sym, ap, _∙_, subst}
-use mathlib.Core.Logic.{_⊎_, inl, inr, _≢_}
-use mathlib.Core.Bool.{true}
-use mathlib.Core.List.{List, [], _∷_, map}
-use mathlib.Core.List.{List·Memᴰ as In, List·Memᴰ·not-nil as in-nil}
-use Prim.Native.Nat.{ℕ, zero, suc, _+_, _*_, _/_, _%_, _≤_, _<_, min, max}
+use mathlib.Core.Logic.{_⊎_, inl, inr}
+use mathlib.Core.List.{List, map}
+use mathlib.Core.List.{List·Memᴰ as In}
+use Prim.Native.Nat.{ℕ, zero, suc, _+_, _*_, _/_, _%_, _≤_, _<_}
 use native.Mathlib.Omega.{arith}
 use lib.ListN.{length, getD, length-map}
-use lib.Seq.{ext-getD}
 use Rattle.truss.specs.Lists.{range, sort}
-use Rattle.truss.specs.Graph.{Link, Pair, Graph, link, linkOf, linksOf, linkAt, linkBefore, graphOf}
-use Rattle.laws.proofs.Proper.{Proper}
-use Rattle.laws.proofs.Members.{Sorted, map-in, in-map, sort-in, in-sort, sort-sorted, range-in, in-range, range-length, in-getD}
+use Rattle.truss.specs.Graph.{Link, Pair, link, linkOf, linksOf, linkAt, linkBefore, graphOf}
+use Rattle.laws.proofs.Members.{Sorted, map-in, in-map, sort-in, in-sort, sort-sorted, range-in, in-range, range-length}
 use Rattle.laws.proofs.Sets.{map-range-at}
-use Rattle.laws.proofs.Ordering.{Distinct, NotAfter, lower, tied, not-after-trans, not-after-antisym, before-yes, before-no, sorted-unique, sort-distinct, sort-length}
+use Rattle.laws.proofs.Ordering.{Distinct, NotAfter, lower, tied, not-after-trans, not-after-antisym, before-yes, before-no, sorted-unique, sort-distinct}
 use Rattle.laws.proofs.Accepted.{GoodPairs, graph-proper, links-distinct}
-use Rattle.laws.proofs.JoinOrder.{range-distinct, map-distinct}
 use Rattle.columns.specs.Columns.{cell}
 use Rattle.columns.specs.Named.{Named}
 use Rattle.linksfile.specs.Records.{keyOf}

@@ -1,7 +1,6 @@
 // Links files: the checks of document 01 in their order, and the keys of the pairs, sorted, in the work space.
 ghost use mathlib.Core.Path.{_≡_};
-ghost use Prim.Native.Nat.{ℕ, _+_, _*_, _<_, _≤_};
-ghost use lib.ListN.{length};
+ghost use Prim.Native.Nat.{_+_, _*_, _<_};
 ghost use Rattle.truss.specs.Graph.{link};
 ghost use Rattle.truss.specs.LinksFile.{readHead};
 ghost use Rattle.linksfile.specs.Records.{keyOf, recordAt};

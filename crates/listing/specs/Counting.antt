@@ -1,35 +1,33 @@
 -- How many links and accounts a group has, counted round by round: a round for each link, then a round for each account. Assumes nothing.
-use mathlib.Core.Path.{_≡_, refl, sym, ap, ap₂, _∙_, subst}
+use mathlib.Core.Path.{_≡_, refl, sym, ap, _∙_, subst}
 use mathlib.Core.Logic.{_⊎_, inl, inr, _≢_}
 use mathlib.Core.Bool.{Bool, true, false, cond, _||_}
 use mathlib.Core.List.{List, [], _∷_, _++_}
 use mathlib.Core.List.{List·Memᴰ as In}
-use Prim.Native.Nat.{ℕ, zero, suc, _+_, _*_, _/_, _%_, _-_, _≤_, _<_, min, max}
+use Prim.Native.Nat.{ℕ, zero, suc, _+_, _*_, _-_, _≤_, _<_, min, max}
 use native.Mathlib.Numerals.{add-one}
 use native.Mathlib.Nat.{zero-add}
 use native.Mathlib.Omega.{arith}
 use lib.Dec.{eqb}
-use lib.ListN.{length, getD}
+use lib.ListN.{length}
 use borrow.Author.Tests.{eq-eqb, eqb-true}
-use Rattle.truss.specs.Limits.{noGroup}
 use Rattle.truss.specs.Lists.{any, filter, range}
 use Rattle.truss.specs.Lists.{count as howMany}
 use Rattle.truss.specs.Graph.{Graph, Link, link, linkAt, linkNumber, ends, member}
 use Rattle.truss.specs.Forest.{sameComponent}
-use Rattle.truss.specs.Group.{Group, groups, groupAt, labelsAt}
+use Rattle.truss.specs.Group.{labelsAt}
 use Rattle.truss.specs.Question.{holds}
 use Rattle.laws.proofs.Lists.{test, bool-same, true-not-false, or-cases}
 use Rattle.laws.proofs.Numbers.{same-or-not, less-or-not}
 use Rattle.laws.proofs.Sets.{any-number}
-use Rattle.laws.proofs.Members.{range-last, any-in, in-any, filter-in, in-filter, in-range, in-member, getD-in, link-of-number, number-lt}
+use Rattle.laws.proofs.Members.{range-last, any-in, in-any, filter-in, in-filter, in-range, in-member, getD-in, link-of-number}
 use Rattle.laws.proofs.Lowering.{count-same}
-use Rattle.laws.proofs.Groups.{size, strengthAt, groupAt-eq, group-strong}
+use Rattle.laws.proofs.Groups.{size, groupAt-eq, group-strong}
 use Rattle.laws.proofs.Stored.{groupCount, stored, stored-at, stored-in}
-use Rattle.columns.specs.Columns.{cell, entry, KEY, HALF}
-use Rattle.columns.specs.Wiping.{Cleaned}
-use Rattle.adjacency.specs.State.{Near, Kept, near-kept, other, named, startAt, entry-cell}
-use Rattle.stored.specs.Rows.{graphIn, IsIndex, GroupsAt, proper}
-use Rattle.listing.specs.Touching.{UpGiven, up-few, Touched, Left, Both, both-none, both-then, bump, bump-again, bump-first, LinkGives}
+use Rattle.columns.specs.Columns.{cell}
+use Rattle.adjacency.specs.State.{Near, Kept, other, named, startAt, entry-cell}
+use Rattle.stored.specs.Rows.{graphIn, IsIndex, proper}
+use Rattle.listing.specs.Touching.{Both, both-none, both-then, bump-again, bump-first, LinkGives}
 
 -- ---- links of a group
 

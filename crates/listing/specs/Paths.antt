@@ -1,20 +1,18 @@
 -- The way up from a group through written parents: numbers rise along it, and there is one way only. Assumes nothing.
-use mathlib.Core.Path.{_≡_, refl, sym, ap, _∙_, subst}
-use mathlib.Core.Logic.{_⊎_, inl, inr, _≢_}
+use mathlib.Core.Path.{_≡_, subst}
 use mathlib.Core.List.{List}
 use mathlib.Core.List.{List·Memᴰ as In}
-use Prim.Native.Nat.{ℕ, _+_, _*_, _≤_, _<_}
+use Prim.Native.Nat.{ℕ, _≤_, _<_}
 use native.Mathlib.Omega.{arith}
 use lib.ListN.{length}
-use Rattle.truss.specs.Limits.{noGroup}
 use Rattle.truss.specs.Graph.{Graph}
 use Rattle.truss.specs.Index.{index}
-use Rattle.truss.specs.Stored.{Leads, up, groupRowAt}
+use Rattle.truss.specs.Stored.{Leads, up}
 use Rattle.truss.specs.Stored.{here as arrived}
 use Rattle.laws.proofs.Groups.{size}
 use Rattle.laws.proofs.Stored.{groupCount, stored}
 use Rattle.laws.proofs.Tree.{group-rows-length, parent-rises, holds-leads, own-holds}
-use Rattle.stored.specs.Rows.{graphIn, IsIndex, ownGroup, parentOf, proper, fits-groups, few, few-links, own-same}
+use Rattle.stored.specs.Rows.{graphIn, IsIndex, ownGroup, parentOf, proper, fits-groups, own-same}
 
 module _ {b : List ℕ} (I : IsIndex b) where
   abbrev G : Graph
@@ -30,10 +28,6 @@ module _ {b : List ℕ} (I : IsIndex b) where
   pub rising : {g h : ℕ} → Leads (index G) g h → g ≤ h
   rising (arrived l) = omega arith
   rising {g} {h} (up l w) = omega (arith, rising w, parent-rises G (proper I) (fits-groups I) g (omega (arith, l, rows)) (starts w))
-
-  -- nothing leads on from no group
-  pub from-none : {g h : ℕ} → g ≡ noGroup → ¬ (Leads (index G) g h)
-  from-none q w = omega (arith, q, starts w, few I, few-links I)
 
   -- of two groups on the way up, the lesser leads to the greater
   pub onward : {g x h : ℕ} → Leads (index G) g x → Leads (index G) g h → x < h → Leads (index G) (parentOf G x) h

@@ -4,7 +4,7 @@ use mathlib.Core.Logic.{_⊎_, inl, inr, _≢_}
 use mathlib.Core.Bool.{Bool}
 use mathlib.Core.List.{List, [], _∷_, _++_, map}
 use mathlib.Core.List.{List·Memᴰ as In}
-use Prim.Native.Nat.{ℕ, zero, suc, _+_, _*_, _/_, _%_, _-_, _≤_, _<_}
+use Prim.Native.Nat.{ℕ, zero, _+_, _*_, _%_, _-_, _≤_, _<_}
 use native.Mathlib.Omega.{arith}
 use lib.ListN.{length, getD, drop, length-map}
 use lib.Seq.{ext-getD}
@@ -12,22 +12,22 @@ use borrow.Author.Tests.{lt-ltb, le-ltb}
 use Rattle.truss.specs.Limits.{noGroup}
 use Rattle.truss.specs.Lists.{concatMap, range}
 use Rattle.truss.specs.Lists.{count as howMany}
-use Rattle.truss.specs.Graph.{Graph, graphOf, linkAt, link, linkNumber}
-use Rattle.truss.specs.Group.{Group, groups, leastLink}
+use Rattle.truss.specs.Graph.{Graph, linkAt, link}
+use Rattle.truss.specs.Group.{groups, leastLink}
 use Rattle.truss.specs.Refusal.{passed, refuse, andThen, mapPassed}
 use Rattle.truss.specs.Record.{fieldAt}
 use Rattle.truss.specs.Index.{GroupRow, groupRow}
 use Rattle.truss.specs.IndexFile.{readIndex}
 use Rattle.truss.specs.Listing.{Row, row, rows}
 use Rattle.truss.specs.Call.{done, write, checkRoom}
-use Rattle.laws.proofs.Numbers.{same-or-not, less-or-not}
+use Rattle.laws.proofs.Numbers.{same-or-not}
 use Rattle.laws.proofs.Members.{number-lt, first-in, in-member, getD-in, range-length}
 use Rattle.laws.proofs.Sets.{map-at, map-range-at}
 use Rattle.laws.proofs.Size.{index-room}
 use Rattle.laws.proofs.Tree.{group-row-at}
 use Rattle.laws.proofs.Groups.{size}
 use Rattle.laws.proofs.Stored.{groupCount, noSuchGroup, stored, stored-at, stored-in}
-use Rattle.columns.specs.Columns.{cell, store, entry, KEY, HALF}
+use Rattle.columns.specs.Columns.{cell, store, entry}
 use Rattle.columns.specs.Laws.{upd-store, length-store}
 use Rattle.columns.specs.Named.{Named}
 use Rattle.columns.specs.Wiping.{Wiping, Cleaned}
@@ -39,8 +39,8 @@ use Rattle.index.specs.Build.{replyIn, replied, Replies, reply-same, reply-with
 use Rattle.index.specs.Read.{Opened, pairsIn}
 use Rattle.stored.specs.Rows.{graphIn, IsIndex, GroupsAt, Shape, parentOf, proper, fits-groups, few, few-links, few-accounts, parent-cases, opened-index, opened-graph, opened-shape}
 use Rattle.stored.specs.Rows.{long as whole-length}
-use Rattle.listing.specs.Touching.{UpGiven, up-few, Both, both-none, both-then, Small, LinkGives}
-use Rattle.listing.specs.Counting.{memberOf, holdsOf, how-few, Rounds, rounds-none, links-more, group-length, Hit, RoundState, round-none, both-kept, round-more, accounts-more}
+use Rattle.listing.specs.Touching.{UpGiven, Both, both-none, both-then, Small}
+use Rattle.listing.specs.Counting.{memberOf, holdsOf, how-few, Rounds, rounds-none, group-length, RoundState, both-kept, accounts-more}
 
 -- ---- keys
 

@@ -1,7 +1,7 @@
 -- A round of touches: a group is counted once in a round, at its first touch. Column 3 has the last round that touched it. Assumes nothing.
 use mathlib.Core.Path.{_≡_, refl, sym, ap, ap₂, _∙_, subst}
 use mathlib.Core.Logic.{_⊎_, inl, inr, _≢_}
-use mathlib.Core.Bool.{Bool, true, false, cond}
+use mathlib.Core.Bool.{cond}
 use mathlib.Core.List.{List}
 use mathlib.Core.List.{List·Memᴰ as In}
 use Prim.Native.Nat.{ℕ, _+_, _*_, _-_, _≤_, _<_}
@@ -17,10 +17,10 @@ use Rattle.laws.proofs.Numbers.{same-or-not, less-or-not}
 use Rattle.laws.proofs.Groups.{size, strengthAt}
 use Rattle.laws.proofs.Stored.{groupCount, stored}
 use Rattle.laws.proofs.Tree.{parent-rises, group-rows-length}
-use Rattle.columns.specs.Columns.{cell, store, COLUMNS}
-use Rattle.columns.specs.Laws.{Upd, Same, upd-store, same-store, length-store, kept-column}
+use Rattle.columns.specs.Columns.{cell, store}
+use Rattle.columns.specs.Laws.{upd-store, length-store, kept-column}
 use Rattle.stored.specs.Rows.{graphIn, IsIndex, GroupsAt, ownGroup, parentOf, proper, fits-groups, few, few-links, parent-cases, own-cases}
-use Rattle.listing.specs.Paths.{starts, rising, from-none, onward, step-up, in-leads, leads-in}
+use Rattle.listing.specs.Paths.{rising, onward, step-up, in-leads, leads-in}
 
 -- what the walk up asks of index and columns: c is the column that counts
 pub record UpGiven (b : List ℕ) (at m count c : ℕ) : Type 0 where

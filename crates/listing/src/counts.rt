@@ -1,10 +1,10 @@
 // How many links and accounts each group has. A link is in its own group and in all groups above it, so each link goes up through parents once for itself and once
 // for each end. Accounts are taken one after the other, and a group counts an account at its first touch: column 3 has the last one that touched it.
 ghost use mathlib.Core.Path.{_≡_};
-ghost use Prim.Native.Nat.{ℕ, _+_, _*_, _<_, _≤_};
+ghost use Prim.Native.Nat.{_+_, _*_, _<_, _≤_};
 ghost use lib.ListN.{length};
 ghost use Rattle.columns.specs.Columns.{cell};
-ghost use Rattle.stored.specs.Rows.{IsIndex, Shape, graphIn};
+ghost use Rattle.stored.specs.Rows.{IsIndex, graphIn};
 ghost use Rattle.laws.proofs.Groups.{size};
 ghost use Rattle.listing.specs.Touching.{LinkGives, Small, TouchOne, UpFrom, UpGiven, UpGives};
 ghost use Rattle.listing.specs.Counting.{RoundState};

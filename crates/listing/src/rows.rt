@@ -1,6 +1,6 @@
 // The rows, six numbers to a group.
 ghost use mathlib.Core.Path.{_≡_};
-ghost use Prim.Native.Nat.{ℕ, _+_, _*_, _<_, _≤_};
+ghost use Prim.Native.Nat.{_+_, _*_, _<_, _≤_};
 ghost use lib.ListN.{length};
 ghost use Rattle.linksfile.specs.Load.{LoadAsks};
 ghost use Rattle.wire.specs.Writing.{upTo, written};

@@ -1,12 +1,9 @@
 -- The question that the code's enum names, and the desk after it. Assumes nothing.
-use mathlib.Core.Path.{_≡_, refl, sym, ap, _∙_}
-use mathlib.Core.Logic.{_⊎_, inl, inr, _≢_}
-use mathlib.Core.Bool.{Bool, true, false, cond}
+use mathlib.Core.Path.{_≡_, ap, _∙_}
+use mathlib.Core.Logic.{_≢_}
 use mathlib.Core.List.{List}
-use Prim.Native.Nat.{ℕ, suc, _+_, _≤_, _<_, min}
+use Prim.Native.Nat.{ℕ, _+_, _≤_}
 use native.Mathlib.Omega.{arith}
-use lib.Dec.{eqb}
-use borrow.Author.Tests.{eq-eqb, ne-eqb}
 use Rattle.truss.specs.Limits.{maxTally}
 use Rattle.truss.specs.Question.{Question, ask-strength, ask-joined, ask-groups-at, ask-strongest, ask-all, ask-links}
 use Rattle.truss.specs.Call.{Asked, nextTally, ask}

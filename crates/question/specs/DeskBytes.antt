@@ -1,24 +1,24 @@
 -- A question from a host that lends the desk record as bytes. Assumes nothing.
 use mathlib.Core.Path.{_≡_, refl, sym, ap, _∙_}
-use mathlib.Core.Logic.{_⊎_, inl, inr, _≢_}
-use mathlib.Core.Bool.{Bool, true, false, cond}
+use mathlib.Core.Logic.{_≢_}
+use mathlib.Core.Bool.{Bool, true, false}
 use mathlib.Core.List.{List, [], _∷_, _++_}
 use Prim.Native.Nat.{ℕ, _+_, _≤_, _<_}
 use native.Mathlib.Omega.{arith}
 use lib.Dec.{eqb, ltb}
-use lib.ListN.{length, drop}
-use borrow.Author.Tests.{lt-ltb, le-ltb, eq-eqb, ne-eqb}
+use lib.ListN.{length}
+use borrow.Author.Tests.{lt-ltb, le-ltb, eq-eqb}
 use Rattle.truss.specs.Limits.{tallyLength}
 use Rattle.truss.specs.Graph.{Graph}
-use Rattle.truss.specs.Refusal.{Refusal, Checked, passed, refused, refuse, refuseIf, andThen}
+use Rattle.truss.specs.Refusal.{Checked, passed, refused, refuse, refuseIf, andThen}
 use Rattle.truss.specs.IndexFile.{readIndex}
 use Rattle.truss.specs.Question.{Question, Answer, answer}
-use Rattle.truss.specs.Call.{Reply, Asked, AskedBytes, withRoom, overwrite, answerBytes, checkedAnswer, nextTally, settle, ask, tallyBytes, tallyIn, checkDesk, settleBytes, askBytes}
+use Rattle.truss.specs.Call.{Asked, AskedBytes, withRoom, overwrite, answerBytes, checkedAnswer, nextTally, settle, ask, tallyBytes, tallyIn, checkDesk, settleBytes, askBytes}
 use Rattle.index.specs.declared.Reply.{Reply as CReply}
 use Rattle.index.specs.Build.{replyIn, Replies, reply-same}
 use Rattle.wire.specs.Writing.{written, written-start}
 use Rattle.question.specs.declared.desk.Desk.{Desk}
-use Rattle.question.specs.Replies.{NotZero, movedBy, asked, AnswerGives, checked-not-zero}
+use Rattle.question.specs.Replies.{NotZero, asked, AnswerGives, checked-not-zero}
 use Rattle.question.specs.Desk.{deskAfter}
 
 abbrev pub askedBytes : CReply → List ℕ → List ℕ → AskedBytes

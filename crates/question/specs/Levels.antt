@@ -1,29 +1,28 @@
 -- Which stored groups are groups at k: those of strength at least k whose parent, if they have one, is weaker. Assumes nothing.
-use mathlib.Core.Path.{_≡_, refl, sym, ap, ap₂, _∙_, subst}
+use mathlib.Core.Path.{_≡_, sym, ap, _∙_, subst}
 use mathlib.Core.Logic.{_⊎_, inl, inr, _≢_}
-use mathlib.Core.Bool.{Bool, true, false, _&&_}
+use mathlib.Core.Bool.{true}
 use mathlib.Core.List.{List}
 use mathlib.Core.List.{List·Memᴰ as In}
-use Prim.Native.Nat.{ℕ, _+_, _*_, _≤_, _<_}
+use Prim.Native.Nat.{ℕ, _≤_, _<_}
 use native.Mathlib.Omega.{arith}
-use lib.ListN.{length, getD}
+use lib.ListN.{length}
 use Rattle.truss.specs.Limits.{minLevel, noGroup}
-use Rattle.truss.specs.Lists.{filter, range, sameList}
+use Rattle.truss.specs.Lists.{filter, range}
 use Rattle.truss.specs.Graph.{Graph}
 use Rattle.truss.specs.Forest.{sameComponent}
-use Rattle.truss.specs.Group.{Group, leastLink, groups, groupAt, labelsAt}
+use Rattle.truss.specs.Group.{leastLink, groups, groupAt, labelsAt}
 use Rattle.truss.specs.Index.{index}
 use Rattle.truss.specs.Stored.{Leads, up}
 use Rattle.truss.specs.Stored.{here as arrived}
 use Rattle.truss.specs.Question.{isGroupAt}
 use Rattle.laws.proofs.Lists.{bool-same}
-use Rattle.laws.proofs.Members.{first-in, filter-in, in-filter, in-range}
+use Rattle.laws.proofs.Members.{first-in, filter-in, in-filter}
 use Rattle.laws.proofs.Sets.{filter-same, same-list-eq, eq-same-list}
-use Rattle.laws.proofs.Groups.{size, strengthAt, groupAt-eq, group-strong, group-in, group-down, group-rebase}
+use Rattle.laws.proofs.Groups.{size, strengthAt, groupAt-eq, group-strong, group-in, group-down}
 use Rattle.laws.proofs.Stored.{groupCount, stored, stored-at, stored-distinct, stored-in}
 use Rattle.laws.proofs.Tree.{group-rows-length, leads-holds, parent-rises, climb-end}
 use Rattle.laws.proofs.Meaning.{stored-largest}
-use Rattle.laws.proofs.Numbers.{less-or-not}
 use Rattle.stored.specs.Rows.{graphIn, IsIndex, parentOf, proper, fits-groups, few, few-links, parent-cases}
 
 -- groups at two levels with the same links are the same list

@@ -1,28 +1,27 @@
 -- Questions on links: A, B and F. Assumes nothing.
-use mathlib.Core.Path.{_≡_, refl, sym, ap, ap₂, _∙_, subst}
+use mathlib.Core.Path.{_≡_, refl, sym, ap, ap₂, _∙_}
 use mathlib.Core.Logic.{_⊎_, inl, inr, _≢_}
-use mathlib.Core.Bool.{Bool, true, false, cond, not, _&&_, _||_}
+use mathlib.Core.Bool.{Bool, true, false, cond, not, _&&_}
 use mathlib.Core.List.{List, [], _∷_}
 use mathlib.Core.List.{List·Memᴰ as In, List·Memᴰ·not-nil as in-nil}
-use Prim.Native.Nat.{ℕ, zero, suc, _+_, _*_, _-_, _≤_, _<_}
+use Prim.Native.Nat.{ℕ, suc, _+_, _*_, _-_, _≤_, _<_}
 use native.Mathlib.Nat.{le-antisymm}
 use native.Mathlib.Omega.{arith}
 use lib.Dec.{eqb, ltb, leb}
-use lib.ListN.{length, getD}
-use borrow.Author.Tests.{le-leb, lt-leb, leb-true, lt-ltb, le-ltb, ltb-true, ltb-false, eq-eqb, eqb-true}
-use Rattle.truss.specs.Limits.{minLevel, maxLevel, noGroup}
+use lib.ListN.{length}
+use borrow.Author.Tests.{le-leb, lt-leb, leb-true, lt-ltb, le-ltb, eq-eqb}
+use Rattle.truss.specs.Limits.{minLevel, noGroup}
 use Rattle.truss.specs.Lists.{any, filter, range, position, largest}
 use Rattle.truss.specs.Graph.{Graph, Link, link, sameLink, linkAt, linkNumber, member}
 use Rattle.truss.specs.Strength.{strength, strengthBound}
 use Rattle.truss.specs.Forest.{sameComponent}
 use Rattle.truss.specs.Group.{groupAt, groups, groupOf, labelsAt}
-use Rattle.truss.specs.Refusal.{Checked, passed, refuse, refuseIf}
-use Rattle.truss.specs.Question.{Answer, number, numbers, answer, outside, badLevel, noLink, joinedUpTo, groupLinks, ask-strength, ask-joined, ask-links}
+use Rattle.truss.specs.Refusal.{Checked, passed, refuse}
+use Rattle.truss.specs.Question.{Answer, number, numbers, answer, outside, badLevel, joinedUpTo, groupLinks, ask-strength, ask-joined, ask-links}
 use Rattle.laws.proofs.Lists.{test, true-not-false, both, and-left, and-right, largest-max, largest-passes}
 use Rattle.laws.proofs.Numbers.{same-or-not, less-or-not}
-use Rattle.laws.proofs.Members.{any-in, in-any, number-lt, link-of-number, filter-in, in-filter, filter-none, in-range}
+use Rattle.laws.proofs.Members.{in-any, number-lt, link-of-number, filter-in, in-filter, filter-none, in-range}
 use Rattle.laws.proofs.Sets.{any-number}
-use Rattle.laws.proofs.Proper.{Proper}
 use Rattle.laws.proofs.Peeling.{strength-at-most}
 use Rattle.laws.proofs.Groups.{size, strengthAt, groupAt-eq, groupAt-none, group-strong}
 use Rattle.laws.proofs.Stored.{groupCount}

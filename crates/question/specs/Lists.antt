@@ -13,7 +13,7 @@ use borrow.Author.Tests.{eq-eqb, ne-eqb, eqb-true, eqb-false, lt-ltb, le-ltb}
 use Rattle.truss.specs.Lists.{filter, range, concatMap}
 use Rattle.truss.specs.Record.{field}
 use Rattle.truss.specs.Question.{numbers}
-use Rattle.truss.specs.Call.{Written, done, withRoom, answerBytes, answerValue}
+use Rattle.truss.specs.Call.{done, answerBytes, answerValue}
 use Rattle.laws.proofs.Numbers.{same-or-not}
 use Rattle.laws.proofs.Lists.{bool-same}
 use Rattle.laws.proofs.Members.{range-last, range-in}
@@ -21,7 +21,7 @@ use Rattle.laws.proofs.Sets.{filter-same}
 use Rattle.columns.specs.Columns.{cell}
 use Rattle.wire.specs.Writing.{written, written-start, written-none, written-length, written-then}
 use Rattle.index.specs.declared.Reply.{Reply as CReply}
-use Rattle.index.specs.Build.{replyIn, replied, Replies, reply-same, reply-with}
+use Rattle.index.specs.Build.{replyIn, Replies, reply-same, reply-with}
 use Rattle.holding.specs.Marks.{Marks}
 use Rattle.question.specs.Replies.{given}
 use Rattle.question.specs.Replies.{Lists as ListGives}
@@ -82,9 +82,6 @@ marked-few w m (suc i) =
     go f ih (inr n) = omega (arith, f, ih, count-more w m i refl n)
 
 -- ---- their bytes
-
-abbrev pub numberBytes : List ℕ → List ℕ
-numberBytes xs = concatMap field xs
 
 bytes-snoc : (xs : List ℕ) (x : ℕ) → concatMap field (xs ++ (x ∷ [])) ≡ concatMap field xs ++ field x
 unfolding concatMap

@@ -1,21 +1,21 @@
 -- Questions on named accounts: C, D and E. Assumes nothing.
-use mathlib.Core.Path.{_≡_, refl, sym, ap, ap₂, _∙_, subst}
+use mathlib.Core.Path.{_≡_, refl, sym, ap, _∙_, subst}
 use mathlib.Core.Logic.{_⊎_, inl, inr, _≢_}
 use mathlib.Core.Bool.{Bool, true, false, cond, not, _&&_, _||_}
-use mathlib.Core.List.{List, [], _∷_}
+use mathlib.Core.List.{List}
 use mathlib.Core.List.{List·Memᴰ as In}
-use Prim.Native.Nat.{ℕ, zero, suc, _+_, _*_, _/_, _%_, _-_, _≤_, _<_}
+use Prim.Native.Nat.{ℕ, _+_, _*_, _/_, _%_, _-_, _≤_, _<_}
 use native.Mathlib.Omega.{arith}
 use lib.Dec.{eqb, ltb, leb}
 use lib.ListN.{length, getD}
-use borrow.Author.Tests.{le-leb, lt-leb, leb-true, leb-false, lt-ltb, le-ltb, eq-eqb, ne-eqb}
+use borrow.Author.Tests.{le-leb, lt-leb, leb-true, lt-ltb, le-ltb, eq-eqb, ne-eqb}
 use Rattle.truss.specs.Limits.{minLevel, noGroup}
-use Rattle.truss.specs.Lists.{any, all, filter, range}
+use Rattle.truss.specs.Lists.{any, all}
 use Rattle.truss.specs.Graph.{Graph}
 use Rattle.truss.specs.Group.{Group, groups}
 use Rattle.truss.specs.Refusal.{Checked, passed, refuse, refuseIf}
 use Rattle.truss.specs.Record.{fieldAt}
-use Rattle.truss.specs.Question.{Answer, numbers, answer, outside, accountsIn, badCount, badLevel, holdsAll, isGroupAt, numbersOf, emptyGroup, groupsHolding, strongestHolding, allHolding, ask-groups-at, ask-strongest, ask-all}
+use Rattle.truss.specs.Question.{Answer, numbers, answer, outside, accountsIn, badCount, badLevel, holdsAll, isGroupAt, numbersOf, groupsHolding, strongestHolding, allHolding, ask-groups-at, ask-strongest, ask-all}
 use Rattle.laws.proofs.Lists.{test, true-not-false, both, and-left, and-right}
 use Rattle.laws.proofs.Numbers.{same-or-not, less-or-not}
 use Rattle.laws.proofs.Members.{any-in, in-any, in-getD, getD-in}
@@ -25,10 +25,10 @@ use Rattle.laws.proofs.Answers.{D-only, D-all, numbers-in, in-numbers}
 use Rattle.columns.specs.Columns.{cell, store}
 use Rattle.columns.specs.Laws.{upd-store, length-store}
 use Rattle.wire.specs.Writing.{Tells, tells-yes, tells-no}
-use Rattle.stored.specs.Rows.{graphIn, IsIndex, GroupsAt, Shape, parentOf, parent-cases, few, few-links}
+use Rattle.stored.specs.Rows.{graphIn, GroupsAt, parentOf, parent-cases, few, few-links}
 use Rattle.holding.specs.Marks.{Marks, marks-as, marks-clear}
 use Rattle.holding.specs.Ranks.{Before, in-before, before-in}
-use Rattle.holding.specs.Turns.{Names, HoldAsks, HoldGives}
+use Rattle.holding.specs.Turns.{Names, HoldGives}
 use Rattle.question.specs.Lists.{marked, marked-are}
 use Rattle.question.specs.Levels.{at-top, at-below, too-weak, not-top}
 

@@ -1,25 +1,23 @@
 -- What a checked answer gives a caller, and the ways to it. Assumes nothing.
-use mathlib.Core.Path.{_≡_, refl, sym, ap, _∙_}
-use mathlib.Core.Logic.{_⊎_, inl, inr, _≢_}
+use mathlib.Core.Path.{_≡_, refl, ap, _∙_}
 use mathlib.Core.Bool.{Bool, true, false, cond, not, _||_}
-use mathlib.Core.List.{List, [], _∷_, _++_}
-use Prim.Native.Nat.{ℕ, _+_, _*_, _≤_, _<_}
+use mathlib.Core.List.{List, [], _∷_}
+use Prim.Native.Nat.{ℕ, _<_}
 use native.Mathlib.Omega.{arith}
-use lib.Dec.{eqb, ltb, leb}
-use lib.ListN.{length, drop}
-use borrow.Author.Tests.{le-leb, lt-leb, lt-ltb, le-ltb, eq-eqb, ne-eqb}
+use lib.Dec.{eqb, ltb}
+use lib.ListN.{length}
+use borrow.Author.Tests.{le-ltb, eq-eqb, ne-eqb}
 use Rattle.truss.specs.Lists.{sameList}
 use Rattle.truss.specs.Graph.{Graph, link}
 use Rattle.truss.specs.Strength.{strength}
-use Rattle.truss.specs.Refusal.{Refusal, Checked, passed, refused, refuse, refuseIf, andThen}
-use Rattle.truss.specs.Record.{field}
+use Rattle.truss.specs.Refusal.{Checked, passed, refused, refuse, refuseIf, andThen}
 use Rattle.truss.specs.LinksFile.{Links, graphOfLinks, readLinks}
 use Rattle.truss.specs.Index.{indexBytes}
 use Rattle.truss.specs.IndexFile.{linksFileIn, ifIndexIs, readIndex}
 use Rattle.truss.specs.Question.{Question, Answer, number, numbers, answer, outside, noLink, badCount, badLevel, accountsIn, joinedUpTo, groupsHolding, strongestHolding, allHolding, groupLinks, ask-strength, ask-joined, ask-groups-at, ask-strongest, ask-all, ask-links}
-use Rattle.truss.specs.Call.{Reply, Written, Asked, done, notDone, withRoom, overwrite, answerBytes, answerValue, checkedAnswer, nextTally, settle, ask}
+use Rattle.truss.specs.Call.{Written, Asked, done, notDone, withRoom, overwrite, answerBytes, answerValue, checkedAnswer, nextTally, settle, ask}
 use Rattle.index.specs.declared.Reply.{Reply as CReply}
-use Rattle.index.specs.Build.{replyIn, replied, Replies, reply-same, reply-with}
+use Rattle.index.specs.Build.{replyIn, replied, Replies, reply-with}
 
 -- a checked answer in the reply and the buffer
 unfoldable pub given : Checked Answer → List ℕ → Written

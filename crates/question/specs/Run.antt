@@ -1,9 +1,9 @@
 -- Over any run of questions the tally is its start plus the answered ones, unless it rests at the top. Of calls by their promises: of the desk that is lent, and of
 -- a desk record that is lent as bytes. Assumes nothing.
-use mathlib.Core.Path.{_≡_, refl, sym, ap, _∙_}
-use mathlib.Core.Bool.{Bool, true, false, cond}
-use mathlib.Core.List.{List, [], _∷_, _++_}
-use Prim.Native.Nat.{ℕ, zero, suc, _+_, _≤_, _<_, min}
+use mathlib.Core.Path.{_≡_, refl, ap, _∙_}
+use mathlib.Core.Bool.{cond}
+use mathlib.Core.List.{List}
+use Prim.Native.Nat.{ℕ, zero, _+_, _≤_, min}
 use native.Mathlib.Omega.{arith}
 use lib.Dec.{eqb, ltb}
 use lib.ListN.{length, drop}
@@ -11,9 +11,8 @@ use borrow.Author.Tests.{eq-eqb, ne-eqb}
 use Rattle.truss.specs.Limits.{maxTally, tallyLength}
 use Rattle.truss.specs.Refusal.{Checked, passed, refused, refuseIf}
 use Rattle.truss.specs.Question.{Question, Answer}
-use Rattle.truss.specs.Call.{Asked, AskedBytes, nextTally, settle, settleBytes, ask, askBytes, checkDesk, checkedAnswer, tallyIn, tallyBytes, overwrite}
+use Rattle.truss.specs.Call.{Asked, AskedBytes, nextTally, settle, settleBytes, ask, askBytes, checkDesk, checkedAnswer, tallyIn}
 use Rattle.laws.proofs.Answers.{tally-back}
-use Rattle.laws.proofs.Numbers.{same-or-not}
 use Rattle.index.specs.declared.Reply.{Reply as CReply}
 use Rattle.question.specs.declared.desk.Desk.{Desk}
 use Rattle.question.specs.Replies.{NotZero, if-not-zero, then-not-zero, checked-not-zero}

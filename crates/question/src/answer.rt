@@ -1,6 +1,6 @@
 // One call for all questions.
 ghost use mathlib.Core.Path.{_≡_};
-ghost use Prim.Native.Nat.{ℕ, _*_};
+ghost use Prim.Native.Nat.{_*_};
 ghost use lib.ListN.{length};
 ghost use Rattle.linksfile.specs.Load.{LoadAsks};
 ghost use Rattle.stored.specs.Rows.{Shape, graphIn};

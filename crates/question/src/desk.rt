@@ -1,7 +1,7 @@
 // The desk: the tally of questions answered.
 ghost use mathlib.Core.List.{[]};
 ghost use mathlib.Core.Path.{_≡_};
-ghost use Prim.Native.Nat.{ℕ, _≤_};
+ghost use Prim.Native.Nat.{_≤_};
 ghost use lib.ListN.{length};
 ghost use Rattle.truss.specs.Call.{tallyBytes, tallyIn};
 ghost use Rattle.question.specs.Desk.{AskGives, deskAfter, questionOf};

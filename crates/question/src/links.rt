@@ -1,11 +1,11 @@
 // Questions on links: A, the strength of one; B, the largest k at which two are joined; F, the links of the group at k with one.
 ghost use mathlib.Core.Path.{_≡_};
-ghost use Prim.Native.Nat.{ℕ, _+_, _*_, _<_, _≤_};
+ghost use Prim.Native.Nat.{_+_, _*_, _<_, _≤_};
 ghost use lib.Dec.{eqb};
 ghost use lib.ListN.{length};
 ghost use Rattle.truss.specs.Limits.{minLevel};
 ghost use Rattle.truss.specs.Lists.{any};
-ghost use Rattle.truss.specs.Group.{groupAt, groupOf, groups};
+ghost use Rattle.truss.specs.Group.{groupAt};
 ghost use Rattle.truss.specs.Question.{ask-joined, ask-links, ask-strength};
 ghost use Rattle.laws.proofs.Groups.{size};
 ghost use Rattle.stored.specs.Rows.{Shape, graphIn};

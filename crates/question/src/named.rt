@@ -1,14 +1,13 @@
 // Questions on named accounts: C, the groups at k that hold all of them; D, of the stored groups that do the strongest; E, all stored groups that do.
 ghost use mathlib.Core.Path.{_≡_};
 ghost use mathlib.Core.Bool.{true};
-ghost use Prim.Native.Nat.{ℕ, _+_, _*_, _<_, _≤_};
+ghost use Prim.Native.Nat.{_+_, _*_, _<_, _≤_};
 ghost use lib.ListN.{length};
 ghost use Rattle.truss.specs.Limits.{minLevel};
 ghost use Rattle.truss.specs.Question.{ask-all, ask-groups-at, ask-strongest, isGroupAt};
 ghost use Rattle.laws.proofs.Stored.{stored};
 ghost use Rattle.wire.specs.Writing.{Tells};
 ghost use Rattle.stored.specs.Rows.{Shape, graphIn};
-ghost use Rattle.holding.specs.Turns.{HoldGives};
 ghost use Rattle.question.specs.Replies.{Answers};
 ghost use Rattle.question.specs.Named.{AboveGives, Best, Counts, FaultGives, HeldGives, KeepGiven, Kept, LevelGives, StrongestGives};
 use crate::lists::give;

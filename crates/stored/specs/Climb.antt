@@ -1,14 +1,14 @@
 -- The climb from a group up through parents to the group at k, and the group at k with a link. Assumes nothing.
-use mathlib.Core.Path.{_≡_, refl, sym, ap, ap₂, _∙_, subst}
+use mathlib.Core.Path.{_≡_, refl, sym, ap, _∙_, subst}
 use mathlib.Core.Logic.{_⊎_, inl, inr, _≢_}
 use mathlib.Core.Bool.{Bool, true, false, cond}
-use mathlib.Core.List.{List, [], _∷_}
+use mathlib.Core.List.{List, []}
 use mathlib.Core.List.{List·Memᴰ as In, List·Memᴰ·not-nil as in-nil}
-use Prim.Native.Nat.{ℕ, _+_, _-_, _≤_, _<_}
+use Prim.Native.Nat.{ℕ, _-_, _≤_, _<_}
 use native.Mathlib.Nat.{le-refl}
 use native.Mathlib.Omega.{arith}
 use lib.Dec.{ltb}
-use lib.ListN.{length, getD}
+use lib.ListN.{length}
 use borrow.Author.Tests.{lt-ltb, ltb-true}
 use Rattle.truss.specs.Limits.{minLevel, noGroup}
 use Rattle.truss.specs.Lists.{any, position, sameList}
@@ -22,10 +22,10 @@ use Rattle.laws.proofs.Numbers.{less-or-not}
 use Rattle.laws.proofs.Members.{position-lt, position-passes, in-any, getD-in}
 use Rattle.laws.proofs.Sets.{same-list-eq, eq-same-list}
 use Rattle.laws.proofs.Proper.{Proper}
-use Rattle.laws.proofs.Groups.{size, strengthAt, groupAt-none, group-self, group-strong, group-rebase, group-in}
+use Rattle.laws.proofs.Groups.{size, strengthAt, groupAt-none, group-self, group-strong, group-rebase}
 use Rattle.laws.proofs.Stored.{groupCount, noSuchGroup, stored, stored-at, stored-distinct, stored-number}
 use Rattle.laws.proofs.Tree.{group-rows-length, leads-holds, parent-rises, climb-end, own-is, own-strength}
-use Rattle.stored.specs.Rows.{graphIn, IsIndex, GroupsAt, ownGroup, parentOf, proper, fits-groups, own-same, own-cases, parent-cases, few, few-links}
+use Rattle.stored.specs.Rows.{graphIn, IsIndex, GroupsAt, ownGroup, parentOf, proper, fits-groups, own-same, parent-cases, few, few-links}
 
 -- ---- up through parents
 

@@ -1,7 +1,7 @@
 -- The number of a link, found by looking at one link after the other. Assumes nothing.
-use mathlib.Core.Path.{_≡_, refl, sym, ap, ap₂, _∙_}
+use mathlib.Core.Path.{_≡_, refl, sym, ap, _∙_}
 use mathlib.Core.Logic.{_⊎_, inl, inr, _≢_}
-use mathlib.Core.Bool.{Bool, true, false, cond, _&&_}
+use mathlib.Core.Bool.{Bool, true, false}
 use mathlib.Core.List.{List, [], _∷_}
 use Prim.Native.Nat.{ℕ, zero, suc, _+_, _≤_, _<_, min, max}
 use native.Mathlib.Nat.{le-of-suc-le-suc, not-suc-le-zero}
@@ -11,7 +11,6 @@ use lib.ListN.{length, getD}
 use borrow.Author.Tests.{eq-eqb, ne-eqb}
 use Rattle.truss.specs.Lists.{position}
 use Rattle.truss.specs.Graph.{Graph, Link, link, sameLink, linkAt, linkNumber}
-use Rattle.laws.proofs.Lists.{both}
 use Rattle.laws.proofs.Numbers.{same-or-not}
 use Rattle.laws.proofs.Groups.{size}
 

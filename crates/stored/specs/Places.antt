@@ -1,14 +1,13 @@
 -- Where the records of an index stand: byte j of the record of link i, and of group g. Assumes nothing.
 use mathlib.Core.Path.{_≡_, refl, sym, ap, ap₂, _∙_}
 use mathlib.Core.List.{List, _++_, map, append-assoc}
-use Prim.Native.Nat.{ℕ, _+_, _*_, _/_, _%_, _≤_, _<_}
+use Prim.Native.Nat.{ℕ, _+_, _*_, _/_, _%_, _<_}
 use native.Mathlib.Omega.{arith}
 use lib.ListN.{length, getD, length-append, length-map}
 use lib.Seq.{ext-getD}
 use Rattle.truss.specs.Lists.{concatMap, range}
-use Rattle.truss.specs.Graph.{Graph, Pair, graphOf}
 use Rattle.truss.specs.Record.{kindIndexHead, byteAt, fieldAt, headBytes, endBytes}
-use Rattle.truss.specs.Index.{Index, linkBytes, joinBytes, groupBytes, encode, index, indexBytes}
+use Rattle.truss.specs.Index.{Index, linkBytes, joinBytes, groupBytes, encode}
 use Rattle.truss.specs.Stored.{rowAt, joinAt, groupRowAt}
 use Rattle.laws.proofs.Members.{range-length}
 use Rattle.laws.proofs.Sets.{map-range-at}

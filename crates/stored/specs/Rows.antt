@@ -1,6 +1,6 @@
 -- The graph whose index the bytes are, and what they say of its links and groups by number. Assumes nothing.
 use mathlib.Core.Path.{_≡_, refl, sym, ap, ap₂, _∙_, subst}
-use mathlib.Core.Logic.{_⊎_, inl, inr, _≢_}
+use mathlib.Core.Logic.{_⊎_, inl, inr}
 use mathlib.Core.Bool.{Bool, true, false, cond}
 use mathlib.Core.List.{List}
 use Prim.Native.Nat.{ℕ, _+_, _*_, _/_, _%_, _≤_, _<_}
@@ -8,14 +8,13 @@ use native.Mathlib.Omega.{arith}
 use lib.Dec.{leb, ltb}
 use lib.ListN.{length, getD, length-map}
 use borrow.Author.Tests.{leb-true, leb-false, ltb-true}
-use Rattle.truss.specs.Limits.{minLevel, maxAccounts, maxLinks, noGroup}
+use Rattle.truss.specs.Limits.{minLevel, noGroup}
 use Rattle.truss.specs.Lists.{position, range}
-use Rattle.truss.specs.Graph.{Graph, Pair, graphOf, linkAt}
+use Rattle.truss.specs.Graph.{Graph, graphOf, linkAt}
 use Rattle.truss.specs.Strength.{strength}
 use Rattle.truss.specs.Group.{Group, leastLink, groupNumber, groups, groupOf, parent}
 use Rattle.truss.specs.Refusal.{passed}
 use Rattle.truss.specs.Record.{byteAt, fieldAt}
-use Rattle.truss.specs.LinksFile.{readHead}
 use Rattle.truss.specs.Index.{Index, LinkRow, GroupRow, linkRow, groupRow, index, indexBytes, encode}
 use Rattle.truss.specs.IndexFile.{readIndex}
 use Rattle.truss.specs.Stored.{rowAt, groupRowAt}

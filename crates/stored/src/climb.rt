@@ -1,6 +1,6 @@
 // The climb from a link's own group up through parents to the group at k.
 ghost use mathlib.Core.Path.{_≡_};
-ghost use Prim.Native.Nat.{ℕ, _<_, _≤_};
+ghost use Prim.Native.Nat.{_<_, _≤_};
 ghost use Rattle.laws.proofs.Groups.{size};
 ghost use Rattle.laws.proofs.Stored.{groupCount};
 ghost use Rattle.truss.specs.Limits.{minLevel};

@@ -1,6 +1,6 @@
 // The number of the link of two accounts.
 ghost use mathlib.Core.Path.{_≡_};
-ghost use Prim.Native.Nat.{ℕ, _<_, _≤_};
+ghost use Prim.Native.Nat.{_<_};
 ghost use Rattle.laws.proofs.Groups.{size};
 ghost use Rattle.truss.specs.Graph.{link, linkAt, linkNumber, sameLink};
 ghost use Rattle.stored.specs.Rows.{graphIn, IsIndex};

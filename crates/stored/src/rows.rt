@@ -1,7 +1,6 @@
 // The fields of a link and of a group, by number.
 ghost use mathlib.Core.Path.{_≡_};
-ghost use Prim.Native.Nat.{ℕ, _+_, _*_, _<_, _≤_};
-ghost use lib.ListN.{length};
+ghost use Prim.Native.Nat.{_+_, _*_, _<_};
 ghost use Rattle.laws.proofs.Groups.{size, strengthAt};
 ghost use Rattle.laws.proofs.Stored.{groupCount, stored};
 ghost use Rattle.truss.specs.Graph.{linkAt};

@@ -1,6 +1,5 @@
 // The calls for the terminal's C host: numbers and byte slices in, four numbers out. A slice is a pointer and then a length. include/footballelm.h has them.
 ghost use mathlib.Core.List.{[]};
-ghost use mathlib.Core.Path.{_≡_};
 ghost use Rattle.truss.specs.Question.{ask-all, ask-groups-at, ask-joined, ask-links, ask-strength, ask-strongest};
 ghost use Rattle.index.specs.Build.{BuildGives};
 ghost use Rattle.index.specs.Read.{ReadGives};

@@ -1,5 +1,5 @@
 -- The table of kinds beyond its known ones, and when a whole record stands at a place. Assumes nothing.
-use mathlib.Core.Path.{_≡_, refl, sym, ap, _∙_}
+use mathlib.Core.Path.{_≡_, refl, sym}
 use mathlib.Core.Logic.{_⊎_, inl, inr, _≢_}
 use mathlib.Core.Option.{none, some}
 use mathlib.Core.Bool.{Bool, true, false, _&&_}
@@ -11,9 +11,6 @@ use lib.ListN.{length}
 use borrow.Author.Tests.{lt-ltb, le-ltb, le-leb, lt-leb, eq-eqb, ne-eqb}
 use Rattle.truss.specs.Record.{bodyLength, byteAt, holdsBody, whole}
 use Rattle.laws.proofs.Numbers.{less-or-not}
-use Rattle.wire.specs.Wire.{bodyOf}
-use Rattle.wire.specs.declared.Body.{Body}
-use Rattle.wire.specs.declared.Body.the-variants.{Length, Unknown}
 
 -- a kind that is none of the six has no body length
 pub unknown : (k : ℕ) → k ≢ 1 → k ≢ 2 → k ≢ 3 → k ≢ 4 → k ≢ 5 → k ≢ 6 → none ≡ bodyLength k

@@ -1,6 +1,6 @@
 // Records and two-byte fields in lent bytes: kinds and body lengths, reading and writing. No graphs.
 ghost use mathlib.Core.Path.{_≡_};
-ghost use Prim.Native.Nat.{ℕ, _+_, _*_, _/_, _%_, _<_, _≤_};
+ghost use Prim.Native.Nat.{_+_, _*_, _/_, _%_, _<_, _≤_};
 ghost use lib.ListN.{length, take};
 ghost use Rattle.truss.specs.Record.{bodyLength, field, fieldAt, headBytes, whole};
 ghost use Rattle.truss.specs.LinksFile.{pairBytes};

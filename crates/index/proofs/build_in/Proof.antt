@@ -1,5 +1,4 @@
 use Rattle.index.specs.Build.{records-refused, records-good, build-finished, solve-asks}
-use native.Mathlib.Omega.{arith}
 use borrow.Author.Needs.{needs}
 use Rattle.index.proofs.build_in.Statement.{statement}
 use Rattle.index.proofs.build_in.Tie as tie

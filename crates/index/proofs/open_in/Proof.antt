@@ -1,5 +1,4 @@
-use native.Mathlib.Omega.{arith}
-use Rattle.index.specs.Read.{keys-fail-gives, open-gives, read-solve, pairsIn}
+use Rattle.index.specs.Read.{keys-fail-gives, open-gives, read-solve}
 use Rattle.linksfile.specs.Load.{scan-asks}
 use Rattle.wire.specs.Writing.{turned-true, turned-false}
 use borrow.Author.Needs.{needs}

@@ -1,10 +1,8 @@
-use Prim.Native.Nat.{ℕ, _+_, _*_, _-_, _≤_, _<_}
-use mathlib.Core.Path.{_≡_, refl, sym, ap, ap₂, _∙_}
-use mathlib.Core.List.{List}
+use Prim.Native.Nat.{ℕ, _*_, _-_, _≤_}
+use mathlib.Core.Path.{_≡_, refl, ap, _∙_}
 use native.Mathlib.Omega.{arith}
 use lib.ListN.{length}
 use Rattle.truss.specs.LinksFile.{pairBytes}
-use Rattle.truss.specs.Graph.{Pair}
 use Rattle.wire.specs.Writing.{written, written-none, written-next, upTo, upTo-more, upTo-length}
 use Rattle.index.specs.Read.{backBytes}
 use borrow.Author.Needs.{needs}

@@ -1,4 +1,4 @@
-use mathlib.Core.Path.{_≡_, refl, _∙_}
+use mathlib.Core.Path.{refl, _∙_}
 use borrow.Author.Needs.{needs}
 use Rattle.indexfile.proofs.join_in.Statement.{statement}
 use Rattle.indexfile.proofs.join_in.Tie as tie

@@ -1,11 +1,10 @@
 use Rattle.indexfile.specs.Same.{not-length, not-head, not-links, not-joins, not-groups, not-end, is-index}
 use Rattle.indexfile.specs.Rows.{link-part, join-part, group-part}
-use Rattle.wire.specs.Writing.{tells-yes, tells-no, turned-true, turned-false, tells-both}
+use Rattle.wire.specs.Writing.{tells-no, turned-true, turned-false, tells-both}
 use lib.ListN.{length}
 use native.Mathlib.Omega.{arith}
-use mathlib.Core.List.{List, _++_}
-use mathlib.Core.Path.{_≡_, refl, sym, ap, _∙_}
-use Prim.Native.Nat.{ℕ, _+_, _*_, _-_, _≤_, _<_}
+use mathlib.Core.Path.{refl, _∙_}
+use Prim.Native.Nat.{_-_}
 use borrow.Author.Needs.{needs}
 use Rattle.indexfile.proofs.same_index.Statement.{statement}
 use Rattle.indexfile.proofs.same_index.Tie as tie

@@ -1,11 +1,9 @@
 use Rattle.indexfile.specs.Comparing.{Matching, matching-none, matching-more, matching-not, matching-all}
 use Rattle.indexfile.specs.Rows.{joinRecord}
 use Rattle.wire.specs.Writing.{tells-yes, tells-no, turned-true, turned-false}
-use lib.ListN.{length}
 use native.Mathlib.Omega.{arith}
-use mathlib.Core.List.{List}
-use mathlib.Core.Path.{_≡_, refl, sym, ap, _∙_}
-use Prim.Native.Nat.{ℕ, _+_, _*_, _-_, _≤_, _<_}
+use mathlib.Core.Path.{refl}
+use Prim.Native.Nat.{_-_, _≤_}
 use borrow.Author.Needs.{needs}
 use Rattle.indexfile.proofs.same_joins.Statement.{statement}
 use Rattle.indexfile.proofs.same_joins.Tie as tie

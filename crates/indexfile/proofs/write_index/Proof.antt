@@ -3,9 +3,9 @@ use Rattle.indexfile.specs.Rows.{link-part, join-part, group-part, index
 use Rattle.wire.specs.Writing.{written, written-next}
 use lib.ListN.{length}
 use native.Mathlib.Omega.{arith}
-use mathlib.Core.List.{List, _++_}
-use mathlib.Core.Path.{_≡_, refl, sym, ap, _∙_}
-use Prim.Native.Nat.{ℕ, _+_, _*_, _-_, _≤_, _<_}
+use mathlib.Core.List.{_++_}
+use mathlib.Core.Path.{refl, sym, ap, _∙_}
+use Prim.Native.Nat.{_+_, _*_, _-_}
 use borrow.Author.Needs.{needs}
 use Rattle.indexfile.proofs.write_index.Statement.{statement}
 use Rattle.indexfile.proofs.write_index.Tie as tie

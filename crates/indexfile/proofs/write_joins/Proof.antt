@@ -2,9 +2,8 @@ use Rattle.indexfile.specs.Rows.{joinRecord}
 use Rattle.wire.specs.Writing.{written, written-none, written-next, upTo, upTo-more, upTo-length}
 use lib.ListN.{length}
 use native.Mathlib.Omega.{arith}
-use mathlib.Core.List.{List}
-use mathlib.Core.Path.{_≡_, refl, sym, ap, _∙_}
-use Prim.Native.Nat.{ℕ, _+_, _*_, _-_, _≤_, _<_}
+use mathlib.Core.Path.{_≡_, refl, ap, _∙_}
+use Prim.Native.Nat.{ℕ, _*_, _-_, _≤_}
 use borrow.Author.Needs.{needs}
 use Rattle.indexfile.proofs.write_joins.Statement.{statement}
 use Rattle.indexfile.proofs.write_joins.Tie as tie

@@ -1,6 +1,5 @@
 use Rattle.linksfile.specs.Checks.{end-1, end-after, end-good}
-use native.Mathlib.Omega.{arith}
-use mathlib.Core.Path.{sym, ap, _∙_}
+use mathlib.Core.Path.{sym, _∙_}
 use Rattle.wire.specs.Writing.{turned-true, turned-false}
 use borrow.Author.Needs.{needs}
 use Rattle.linksfile.proofs.ending.Statement.{statement}

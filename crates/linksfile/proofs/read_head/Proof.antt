@@ -1,9 +1,8 @@
 use Rattle.wire.specs.Writing.{turned-true, turned-false}
-use Prim.Native.Nat.{ℕ, _<_}
 use Rattle.linksfile.specs.Checks.{whole-head, head-1, head-2-none, head-2-many, head-3, head-passes}
 use Rattle.linksfile.specs.Answers.{headOf}
 use native.Mathlib.Omega.{arith}
-use mathlib.Core.Path.{sym, ap, _∙_}
+use mathlib.Core.Path.{sym, _∙_}
 use borrow.Author.Needs.{needs}
 use Rattle.linksfile.proofs.read_head.Statement.{statement}
 use Rattle.linksfile.proofs.read_head.Tie as tie

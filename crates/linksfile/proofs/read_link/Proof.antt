@@ -2,7 +2,7 @@ use Rattle.wire.specs.Writing.{turned-true, turned-false}
 use Rattle.linksfile.specs.Checks.{whole-link, record-1, record-4-first, record-4-second, record-5, record-key}
 use Rattle.linksfile.specs.Answers.{plainOf}
 use native.Mathlib.Omega.{arith}
-use mathlib.Core.Path.{sym, ap, _∙_}
+use mathlib.Core.Path.{sym, _∙_}
 use borrow.Author.Needs.{needs}
 use Rattle.linksfile.proofs.read_link.Statement.{statement}
 use Rattle.linksfile.proofs.read_link.Tie as tie

@@ -3,7 +3,7 @@ use Rattle.linksfile.specs.Answers.{plainOf}
 use lib.ListN.{length}
 use native.Mathlib.Omega.{arith}
 use mathlib.Core.Path.{_≡_, refl, sym, ap, _∙_}
-use Prim.Native.Nat.{ℕ, _+_, _*_, _-_, _≤_, _<_}
+use Prim.Native.Nat.{_+_, _*_, _-_}
 use borrow.Author.Needs.{needs}
 use Rattle.linksfile.proofs.scan.Statement.{statement}
 use Rattle.linksfile.proofs.scan.Tie as tie

@@ -2,7 +2,6 @@ use Rattle.wire.specs.WireLaws.{unknown}
 use Rattle.wire.specs.Wire.{bodyOf}
 use Rattle.truss.specs.Record.{bodyLength}
 use mathlib.Core.Path.{sym, ap}
-use borrow.Author.Needs.{needs}
 use Rattle.wire.proofs.body_length.Statement.{statement}
 use Rattle.wire.proofs.body_length.Tie as tie
 use Rattle.wire.proofs.body_length.Reads as reads

@@ -2,8 +2,8 @@ use Rattle.wire.specs.Writing.{written, written-none, written-byte}
 use lib.Seq.{take-all}
 use lib.ListN.{length, take}
 use native.Mathlib.Omega.{arith}
-use mathlib.Core.Path.{_≡_, refl, sym, ap, _∙_}
-use Prim.Native.Nat.{ℕ, _+_, _-_, _≤_, _<_}
+use mathlib.Core.Path.{_≡_, refl, ap, _∙_}
+use Prim.Native.Nat.{_-_, _≤_}
 use borrow.Author.Needs.{needs}
 use Rattle.wire.proofs.paste.Statement.{statement}
 use Rattle.wire.proofs.paste.Tie as tie

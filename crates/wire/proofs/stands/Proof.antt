@@ -1,8 +1,8 @@
 use Rattle.wire.specs.Writing.{tells-yes, tells-no, stands-more, stands-not, stands-all}
 use lib.ListN.{length, take}
 use native.Mathlib.Omega.{arith}
-use mathlib.Core.Path.{_≡_, refl, sym, ap, _∙_}
-use Prim.Native.Nat.{ℕ, _+_, _-_, _≤_, _<_}
+use mathlib.Core.Path.{_≡_, refl}
+use Prim.Native.Nat.{_-_, _≤_}
 use borrow.Author.Needs.{needs}
 use Rattle.wire.proofs.stands.Statement.{statement}
 use Rattle.wire.proofs.stands.Tie as tie

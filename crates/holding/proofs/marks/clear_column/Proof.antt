@@ -1,5 +1,5 @@
 use native.Mathlib.Omega.{arith}
-use mathlib.Core.Path.{_≡_, refl, _∙_}
+use mathlib.Core.Path.{_≡_, _∙_}
 use Prim.Native.Nat.{_-_, _≤_}
 use Rattle.columns.specs.Wiping.{Wiping, wiping-none, wiping-more}
 use Rattle.holding.proofs.marks.clear_column.Statement.{statement}

@@ -1,5 +1,5 @@
 use native.Mathlib.Omega.{arith}
-use mathlib.Core.Path.{_≡_, refl, sym, _∙_}
+use mathlib.Core.Path.{_≡_, _∙_}
 use Prim.Native.Nat.{_-_, _≤_}
 use Rattle.holding.specs.Turns.{LiftAll, lift-all-none, lift-all-more, lift-few}
 use Rattle.holding.proofs.marks.lift_all.Statement.{statement}

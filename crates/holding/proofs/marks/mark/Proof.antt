@@ -1,4 +1,3 @@
-use native.Mathlib.Omega.{arith}
 use Rattle.holding.specs.Turns.{marked-none, marked-store}
 use borrow.Author.Needs.{needs}
 use Rattle.holding.proofs.marks.mark.Statement.{statement}

@@ -1,7 +1,6 @@
 use native.Mathlib.Omega.{arith}
-use mathlib.Core.Path.{_≡_, refl, sym, ap, _∙_}
-use Rattle.holding.specs.Ranks.{rankIn}
-use Rattle.holding.specs.Turns.{own-skip, own-in, own-more, ends-below, few-in, few-all}
+use mathlib.Core.Path.{refl, _∙_}
+use Rattle.holding.specs.Turns.{own-skip, own-in, own-more, ends-below, few-in}
 use Rattle.stored.specs.Rows.{few-accounts}
 use borrow.Author.Needs.{needs}
 use Rattle.holding.proofs.marks.mark_link.Statement.{statement}

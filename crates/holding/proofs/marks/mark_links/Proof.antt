@@ -1,5 +1,5 @@
 use native.Mathlib.Omega.{arith}
-use mathlib.Core.Path.{_≡_, refl, sym, _∙_}
+use mathlib.Core.Path.{_≡_, sym, _∙_}
 use Prim.Native.Nat.{_-_, _≤_}
 use Rattle.holding.specs.Turns.{OwnMarks, own-none, few-all}
 use Rattle.holding.proofs.marks.mark_links.Statement.{statement}

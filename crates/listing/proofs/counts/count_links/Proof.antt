@@ -1,6 +1,6 @@
 use native.Mathlib.Omega.{arith}
-use mathlib.Core.Path.{_≡_, refl, sym, ap, _∙_}
-use Prim.Native.Nat.{ℕ, _-_, _≤_}
+use mathlib.Core.Path.{_≡_}
+use Prim.Native.Nat.{_-_, _≤_}
 use Rattle.stored.specs.Rows.{graphIn}
 use Rattle.listing.specs.Touching.{Both, both-none, both-then, up-few}
 use Rattle.listing.specs.Counting.{Rounds, memberOf, links-more}

@@ -1,5 +1,5 @@
 use native.Mathlib.Omega.{arith}
-use mathlib.Core.Path.{_≡_, refl, sym, ap, _∙_}
+use mathlib.Core.Path.{_∙_}
 use Rattle.stored.specs.Rows.{graphIn}
 use Rattle.listing.specs.Rows.{count-few, keys-named, links-asks, accounts-asks, all-counted}
 use borrow.Author.Needs.{needs}

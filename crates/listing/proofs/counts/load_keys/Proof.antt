@@ -1,7 +1,7 @@
 use native.Mathlib.Omega.{arith}
-use mathlib.Core.Path.{_≡_, refl, sym, _∙_}
-use Prim.Native.Nat.{ℕ, _-_, _≤_}
-use Rattle.stored.specs.Rows.{few-links, few-accounts}
+use mathlib.Core.Path.{_≡_, sym, _∙_}
+use Prim.Native.Nat.{_-_, _≤_}
+use Rattle.stored.specs.Rows.{few-links}
 use Rattle.listing.specs.Rows.{KeysFrom, keys-none, keys-more, key-small}
 use Rattle.listing.proofs.counts.load_keys.Statement.{statement}
 use Rattle.listing.proofs.counts.load_keys.Tie as tie

@@ -1,10 +1,6 @@
-use native.Mathlib.Omega.{arith}
-use mathlib.Core.Path.{_≡_, refl, sym, ap, _∙_}
-use Prim.Native.Nat.{ℕ}
+use mathlib.Core.Path.{ap, _∙_}
 use lib.ListN.{length}
-use mathlib.Core.List.{List}
-use Rattle.columns.specs.Columns.{cell}
-use Rattle.columns.specs.Laws.{length-store, kept-column}
+use Rattle.columns.specs.Laws.{length-store}
 use Rattle.listing.specs.Touching.{touch-again, touch-first, first-small}
 use borrow.Author.Needs.{needs}
 use Rattle.listing.proofs.counts.touch.Statement.{statement}

@@ -1,6 +1,6 @@
 use native.Mathlib.Omega.{arith}
-use mathlib.Core.Path.{_≡_, refl, sym, ap, _∙_}
-use Prim.Native.Nat.{ℕ, _-_, _≤_}
+use mathlib.Core.Path.{_≡_, _∙_}
+use Prim.Native.Nat.{_-_, _≤_}
 use Rattle.listing.specs.Touching.{up-few}
 use Rattle.listing.specs.Counting.{RoundState, round-none, round-more}
 use Rattle.listing.specs.Rows.{round-link, round-small}

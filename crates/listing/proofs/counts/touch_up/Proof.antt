@@ -1,6 +1,6 @@
 use native.Mathlib.Omega.{arith}
-use mathlib.Core.Path.{_≡_, refl, sym, ap, _∙_}
-use Prim.Native.Nat.{ℕ, _-_, _≤_}
+use mathlib.Core.Path.{_∙_}
+use Prim.Native.Nat.{_-_}
 use Rattle.listing.specs.Touching.{UpState, up-none, up-few, up-in, up-count, up-falls, up-more, up-done}
 use Rattle.listing.proofs.counts.touch_up.Statement.{statement}
 use Rattle.listing.proofs.counts.touch_up.Tie as tie

@@ -1,10 +1,10 @@
 use Rattle.listing.specs.Rows.{out-long}
 use native.Mathlib.Omega.{arith}
-use mathlib.Core.Path.{_≡_, refl, sym, ap, _∙_}
-use Prim.Native.Nat.{ℕ, _+_, _*_, _-_, _≤_}
+use mathlib.Core.Path.{_≡_, sym, ap, _∙_}
+use Prim.Native.Nat.{ℕ, _*_, _-_, _≤_}
 use lib.ListN.{length, drop, length-drop}
 use lib.Seq.{length-take-le}
-use Rattle.wire.specs.Writing.{written, written-none, written-length, written-next, upTo, upTo-more}
+use Rattle.wire.specs.Writing.{written, written-none, written-next, upTo, upTo-more}
 use Rattle.listing.specs.Rows.{rowOf, rows-length, rows-few}
 use Rattle.listing.proofs.rows.put_rows.Statement.{statement}
 use Rattle.listing.proofs.rows.put_rows.Tie as tie

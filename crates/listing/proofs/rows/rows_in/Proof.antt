@@ -1,5 +1,4 @@
 use native.Mathlib.Omega.{arith}
-use mathlib.Core.Path.{_≡_, refl, sym, ap, _∙_}
 use Rattle.index.specs.Read.{opened-is, not-opened}
 use Rattle.listing.specs.Rows.{rows-7, rows-12, rows-wrote, opened-counts, opened-rows, opened-few}
 use borrow.Author.Needs.{needs}

@@ -1,5 +1,4 @@
 use native.Mathlib.Omega.{arith}
-use mathlib.Core.Path.{_≡_, sym, ap, _∙_}
 use Rattle.index.specs.Read.{opened-is, not-opened}
 use Rattle.stored.specs.Rows.{graphIn, opened-shape, opened-graph}
 use Rattle.question.specs.Replies.{asked-7, asked-of}

@@ -1,6 +1,4 @@
-use mathlib.Core.Path.{_≡_, sym, ap, _∙_, subst}
-use mathlib.Core.List.{List}
-use Prim.Native.Nat.{ℕ}
+use mathlib.Core.Path.{sym, subst}
 use Rattle.stored.specs.Rows.{graphIn}
 use Rattle.question.specs.Replies.{Answers}
 use Rattle.question.specs.Desk.{questionOf}

@@ -1,4 +1,4 @@
-use mathlib.Core.Path.{_≡_, refl, sym, ap, _∙_}
+use mathlib.Core.Path.{ap, _∙_}
 use Rattle.wire.specs.Writing.{written}
 use Rattle.question.specs.Desk.{questionOf}
 use Rattle.question.specs.DeskBytes.{desk-stays, desk-moves}

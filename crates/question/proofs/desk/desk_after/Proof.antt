@@ -1,8 +1,5 @@
 use Rattle.question.specs.Desk.{tally-rests, tally-moves}
-use native.Mathlib.Omega.{arith}
-use mathlib.Core.Path.{_≡_, sym}
 use borrow.Author.Tests.{eq-eqb, ne-eqb}
-use Prim.Native.Nat.{ℕ, suc, min}
 use borrow.Author.Needs.{needs}
 use Rattle.question.proofs.desk.desk_after.Statement.{statement}
 use Rattle.question.proofs.desk.desk_after.Tie as tie

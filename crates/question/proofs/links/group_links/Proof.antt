@@ -1,5 +1,5 @@
 use native.Mathlib.Omega.{arith}
-use mathlib.Core.Path.{_≡_, refl, sym, ap, _∙_}
+use mathlib.Core.Path.{ap, _∙_}
 use Rattle.truss.specs.Graph.{link}
 use Rattle.truss.specs.Group.{groupAt}
 use Rattle.truss.specs.Question.{ask-links, groupLinks}

@@ -1,5 +1,4 @@
 use Rattle.question.specs.Links.{joined-none, joined-by}
-use borrow.Author.Needs.{needs}
 use Rattle.question.proofs.links.in_one_group.Statement.{statement}
 use Rattle.question.proofs.links.in_one_group.Tie as tie
 use Rattle.question.proofs.links.in_one_group.Reads as reads

@@ -1,5 +1,4 @@
 use Rattle.question.specs.Links.{inside-no, inside-yes, not-in-none, not-in-other, in-same}
-use borrow.Author.Needs.{needs}
 use Rattle.question.proofs.links.inside.Statement.{statement}
 use Rattle.question.proofs.links.inside.Tie as tie
 use Rattle.question.proofs.links.inside.Reads as reads

@@ -1,5 +1,4 @@
 use native.Mathlib.Omega.{arith}
-use mathlib.Core.Path.{_≡_, refl, sym, _∙_}
 use Rattle.truss.specs.Graph.{link}
 use Rattle.truss.specs.Question.{ask-joined}
 use Rattle.stored.specs.Rows.{graphIn}

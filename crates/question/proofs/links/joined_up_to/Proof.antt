@@ -1,6 +1,5 @@
 use native.Mathlib.Omega.{arith}
-use mathlib.Core.Path.{_≡_, refl, sym, _∙_}
-use Prim.Native.Nat.{ℕ, _-_, _≤_, _<_}
+use Prim.Native.Nat.{_-_, _<_}
 use Rattle.stored.specs.Rows.{graphIn}
 use Rattle.question.specs.Links.{NoneAbove, none-above-start, none-above-more, joined-found, joined-nowhere}
 use Rattle.question.proofs.links.joined_up_to.Statement.{statement}

@@ -1,6 +1,6 @@
 use native.Mathlib.Omega.{arith}
-use mathlib.Core.Path.{_≡_, refl, sym, _∙_}
-use Prim.Native.Nat.{ℕ, _-_, _≤_}
+use mathlib.Core.Path.{_≡_, sym, _∙_}
+use Prim.Native.Nat.{_-_, _≤_}
 use Rattle.stored.specs.Rows.{graphIn, few-links}
 use Rattle.question.specs.Links.{Members, members-none, members-more}
 use Rattle.question.proofs.links.mark_members.Statement.{statement}

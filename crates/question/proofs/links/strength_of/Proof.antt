@@ -1,5 +1,5 @@
 use native.Mathlib.Omega.{arith}
-use mathlib.Core.Path.{_≡_, refl, sym, _∙_}
+use mathlib.Core.Path.{_∙_}
 use Rattle.truss.specs.Graph.{link}
 use Rattle.truss.specs.Question.{ask-strength}
 use Rattle.stored.specs.Rows.{graphIn}

@@ -3,7 +3,7 @@ use lib.ListN.{length, drop, length-drop}
 use lib.Seq.{length-take-le}
 use Rattle.wire.specs.Writing.{written-part}
 use native.Mathlib.Omega.{arith}
-use mathlib.Core.Path.{_≡_, refl, sym, ap, _∙_}
+use mathlib.Core.Path.{refl, ap}
 use borrow.Author.Needs.{needs}
 use Rattle.question.proofs.lists.put_number.Statement.{statement}
 use Rattle.question.proofs.lists.put_number.Tie as tie

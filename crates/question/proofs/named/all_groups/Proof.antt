@@ -1,10 +1,8 @@
-use native.Mathlib.Omega.{arith}
-use mathlib.Core.Path.{_≡_, refl, sym, ap, _∙_}
-use Rattle.truss.specs.Question.{ask-groups-at, ask-strongest, ask-all}
+use Rattle.truss.specs.Question.{ask-all}
 use Rattle.stored.specs.Rows.{graphIn}
 use Rattle.question.specs.Replies.{answer-refused, answer-numbers}
-use Rattle.question.specs.Links.{level-low, level-high, level-good, shape-few}
-use Rattle.question.specs.Named.{C-fault, D-fault, E-fault, C-level, C-is, D-is, E-answer, C-marked, D-marked, E-marked}
+use Rattle.question.specs.Links.{shape-few}
+use Rattle.question.specs.Named.{E-fault, E-answer, E-marked}
 use borrow.Author.Needs.{needs}
 use Rattle.question.proofs.named.all_groups.Statement.{statement}
 use Rattle.question.proofs.named.all_groups.Tie as tie

@@ -1,8 +1,5 @@
 use native.Mathlib.Omega.{arith}
-use mathlib.Core.Path.{_≡_, refl, sym, _∙_}
-use mathlib.Core.Logic.{inl, inr}
 use Rattle.question.specs.Named.{keep-few, counts-unmarked, counts-less, counts-more}
-use borrow.Author.Needs.{needs}
 use Rattle.question.proofs.named.better.Statement.{statement}
 use Rattle.question.proofs.named.better.Tie as tie
 use Rattle.question.proofs.named.better.Reads as reads

@@ -1,6 +1,6 @@
 use native.Mathlib.Omega.{arith}
-use mathlib.Core.Path.{_≡_, refl, sym, _∙_}
-use Prim.Native.Nat.{ℕ, _-_, _≤_}
+use mathlib.Core.Path.{_≡_}
+use Prim.Native.Nat.{_-_, _≤_}
 use Rattle.stored.specs.Rows.{graphIn}
 use Rattle.question.specs.Named.{Best, best-none, best-more, keep-few}
 use Rattle.question.proofs.named.greatest.Statement.{statement}

@@ -1,4 +1,4 @@
-use mathlib.Core.Path.{_≡_, refl, sym, _∙_}
+use mathlib.Core.Path.{sym, _∙_}
 use Rattle.stored.specs.Rows.{graphIn}
 use Rattle.question.specs.Named.{good-names}
 use borrow.Author.Needs.{needs}

@@ -1,6 +1,5 @@
 use native.Mathlib.Omega.{arith}
 use Rattle.question.specs.Named.{level-weak, level-top, level-parent, level-parent-in}
-use borrow.Author.Needs.{needs}
 use Rattle.question.proofs.named.is_group_at.Statement.{statement}
 use Rattle.question.proofs.named.is_group_at.Tie as tie
 use Rattle.question.proofs.named.is_group_at.Reads as reads

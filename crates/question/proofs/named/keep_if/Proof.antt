@@ -1,4 +1,4 @@
-use mathlib.Core.Path.{refl, sym, _∙_}
+use mathlib.Core.Path.{refl}
 use Rattle.laws.proofs.Lists.{true-not-false}
 use borrow.Author.Needs.{needs}
 use Rattle.question.proofs.named.keep_if.Statement.{statement}

@@ -1,6 +1,6 @@
 use native.Mathlib.Omega.{arith}
-use mathlib.Core.Path.{_≡_, refl, sym, _∙_}
-use Prim.Native.Nat.{ℕ, _-_, _≤_}
+use mathlib.Core.Path.{sym, _∙_}
+use Prim.Native.Nat.{_-_, _≤_}
 use Rattle.question.specs.Named.{KeepState, AtLevel, keep-few, keep-none, keep-more, level-done}
 use Rattle.question.proofs.named.keep_level.Statement.{statement}
 use Rattle.question.proofs.named.keep_level.Tie as tie

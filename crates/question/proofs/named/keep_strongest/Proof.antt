@@ -1,6 +1,6 @@
 use native.Mathlib.Omega.{arith}
-use mathlib.Core.Path.{_≡_, refl, sym, _∙_}
-use Prim.Native.Nat.{ℕ, _-_, _≤_}
+use mathlib.Core.Path.{sym, _∙_}
+use Prim.Native.Nat.{_-_, _≤_}
 use Rattle.question.specs.Named.{KeepState, AsStrong, keep-few, keep-none, keep-more, strongest-done, strong-tells}
 use Rattle.question.proofs.named.keep_strongest.Statement.{statement}
 use Rattle.question.proofs.named.keep_strongest.Tie as tie

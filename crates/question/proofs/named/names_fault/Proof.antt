@@ -1,7 +1,6 @@
-use mathlib.Core.Path.{_≡_, refl, sym, _∙_}
+use mathlib.Core.Path.{sym, _∙_}
 use native.Mathlib.Omega.{arith}
 use Rattle.question.specs.Named.{none-named, many-named, odd-named, good-named, fault-8, fault-9, fault-none, half-named}
-use borrow.Author.Needs.{needs}
 use Rattle.question.proofs.named.names_fault.Statement.{statement}
 use Rattle.question.proofs.named.names_fault.Tie as tie
 use Rattle.question.proofs.named.names_fault.Reads as reads

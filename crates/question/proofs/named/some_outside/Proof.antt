@@ -1,6 +1,6 @@
 use native.Mathlib.Omega.{arith}
-use mathlib.Core.Path.{_≡_, refl, sym, _∙_}
-use Prim.Native.Nat.{ℕ, _-_, _≤_}
+use mathlib.Core.Path.{sym}
+use Prim.Native.Nat.{_-_, _≤_}
 use Rattle.question.specs.Named.{FirstBelow, below-none, below-more, some-outside, none-outside}
 use Rattle.question.proofs.named.some_outside.Statement.{statement}
 use Rattle.question.proofs.named.some_outside.Tie as tie
