@@ -19,7 +19,7 @@ use Rattle.laws.proofs.Tree.{parent-rises}
 use Rattle.columns.specs.Columns.{cell, store}
 use Rattle.columns.specs.Laws.{Upd, Same, upd-store, same-store, length-store, kept-column}
 use Rattle.columns.specs.Wiping.{Wiping}
-use Rattle.stored.specs.Rows.{graphIn, IsIndex, GroupsAt, Shape, ownGroup, parentOf, proper, fits-groups, few, few-links, few-accounts, parent-cases, own-cases}
+use Rattle.stored.specs.Rows.{graphIn, IsIndex, GroupsAt, Shape, ownGroup, parentOf, proper, fits-groups, few, few-links, few-accounts, parent-cases, own-cases, Sized, shape-sized, sized-few}
 use Rattle.holding.specs.Marks.{Marks, marks-none, marks-as, marks-set}
 use Rattle.holding.specs.Ranks.{rankIn, Before, Ranks, ranks-again, ranks-new, before-in}
 use Rattle.holding.specs.Held.{Own, HeldBy, Lifted, lifted-held, held-lifted, all-held, held-all}
@@ -209,24 +209,13 @@ module _ {b : List ℕ} {m count d : ℕ} {ranks : List ℕ} (A : MarkGiven b m 
 
 -- ---- up the tree
 
-pub record LiftGiven (b : List ℕ) (at m count : ℕ) : Type 0 where
-  pub groups-at : GroupsAt b at
-  pub links : size (graphIn b) ≡ m
-  pub groups : groupCount (graphIn b) ≡ count
-
-pub lift-few : {b : List ℕ} {at m count : ℕ} → LiftGiven b at m count → count ≤ m
-lift-few A = omega (arith, few (A .groups-at .is-index), A .links, A .groups)
-
-pub lift-all-few : {b : List ℕ} {at m count : ℕ} → LiftGiven b at m count → m ≤ 2048
-lift-all-few A = omega (arith, few-links (A .groups-at .is-index), A .links)
-
 -- one turn: the parent of a marked group is marked
 pub record LiftOne (b : List ℕ) (m c g : ℕ) (w w′ : List ℕ) : Type 0 where
   pub unmarked : cell w m c g ≡ 0 → w′ ≡ w
   pub top : parentOf (graphIn b) g ≡ noGroup → w′ ≡ w
   pub marked : cell w m c g ≢ 0 → parentOf (graphIn b) g ≢ noGroup → w′ ≡ store w m c (parentOf (graphIn b) g) 1
 
-pub lift-parent : {b : List ℕ} {at m count g p : ℕ} → LiftGiven b at m count → g < count → p ≡ parentOf (graphIn b) g → p ≢ noGroup → p < count
+pub lift-parent : {b : List ℕ} {at m count g p : ℕ} → Sized b at m count → g < count → p ≡ parentOf (graphIn b) g → p ≢ noGroup → p < count
 lift-parent {b} {at} {m} {count} {g} {p} A l q n = go (parent-cases (A .groups-at .is-index) g (omega (arith, l, A .groups)))
   where
     go : (parentOf (graphIn b) g < groupCount (graphIn b)) ⊎ (parentOf (graphIn b) g ≡ noGroup) → p < count
@@ -247,7 +236,7 @@ pub record LiftState (b : List ℕ) (m count c g : ℕ) (w w′ : List ℕ) : Ty
   pub only : Only m c w w′
   pub marks : (ranks : List ℕ) → Marks (cell w m c) count (Own (graphIn b) ranks c m) → Marks (cell w′ m c) count (Lifted (graphIn b) ranks c g)
 
-pub lift-none : {b : List ℕ} {at m count c : ℕ} {w : List ℕ} → LiftGiven b at m count → LiftState b m count c 0 w w
+pub lift-none : {b : List ℕ} {at m count c : ℕ} {w : List ℕ} → Sized b at m count → LiftState b m count c 0 w w
 lift-none {b} {at} {m} {count} {c} {w} A = record {
   only = only-none m c w;
   marks = λ ranks M. marks-as M (λ x k. refl) (λ x k p. inl (subst (λ (y : ℕ). Own (graphIn b) ranks c y x) (sym (A .links)) p)) (λ x k p. back ranks x p);
@@ -257,7 +246,7 @@ lift-none {b} {at} {m} {count} {c} {w} A = record {
     back ranks x (inl p) = subst (λ (y : ℕ). Own (graphIn b) ranks c y x) (A .links) p
     back ranks x (inr (y, ly, q, r)) = absurd (omega (arith, ly))
 
-module _ {b : List ℕ} {at m count : ℕ} (A : LiftGiven b at m count) (ranks : List ℕ) (c g : ℕ) (w : List ℕ) (M : Marks (cell w m c) count (Lifted (graphIn b) ranks c g)) (l : g < count) where
+module _ {b : List ℕ} {at m count : ℕ} (A : Sized b at m count) (ranks : List ℕ) (c g : ℕ) (w : List ℕ) (M : Marks (cell w m c) count (Lifted (graphIn b) ranks c g)) (l : g < count) where
   I : IsIndex b
   I = A .groups-at .is-index
 
@@ -293,22 +282,22 @@ module _ {b : List ℕ} {at m count : ℕ} (A : LiftGiven b at m count) (ranks :
     where
       go : (cell w m c g ≡ 0) ⊎ (cell w m c g ≢ 0) → (parentOf (graphIn b) g ≡ noGroup) ⊎ (parentOf (graphIn b) g ≢ noGroup) → Marks (cell w′ m c) count (Lifted (graphIn b) ranks c (g + 1))
       go (inl z) y = rw (O .unmarked z) (marks-as M (λ x k. refl) (λ x k p. first p) (λ x k p. back-from (λ e h. not-held z h) p))
-      go (inr nz) (inl t) = rw (O .top t) (marks-as M (λ x k. refl) (λ x k p. first p) (λ x k p. back-from (λ s h. omega (arith, s, t, k, lift-few A, lift-all-few A)) p))
+      go (inr nz) (inl t) = rw (O .top t) (marks-as M (λ x k. refl) (λ x k p. first p) (λ x k p. back-from (λ s h. omega (arith, s, t, k, sized-few A .0, sized-few A .1)) p))
       go (inr nz) (inr nt) =
-          let lp : parentOf (graphIn b) g < m = omega (arith, lift-parent A l refl nt, lift-few A) in
+          let lp : parentOf (graphIn b) g < m = omega (arith, lift-parent A l refl nt, sized-few A .0) in
           rw (O .marked nz nt)
-          (marks-set (lift-few A) M (upd-store w m c (parentOf (graphIn b) g) 1 lc lp sz) (λ z. omega (arith, z)) (inr (g, omega arith, refl, is-held nz)) (λ y r. first r)
+          (marks-set (sized-few A .0) M (upd-store w m c (parentOf (graphIn b) g) 1 lc lp sz) (λ z. omega (arith, z)) (inr (g, omega arith, refl, is-held nz)) (λ y r. first r)
           (λ y ny r. back-from (λ s h. ny (sym s)) r))
 
-only-lift : {b : List ℕ} {at m count c g : ℕ} {w w′ : List ℕ} → LiftGiven b at m count → g < count → LiftOne b m c g w w′ → Only m c w w′
+only-lift : {b : List ℕ} {at m count c g : ℕ} {w w′ : List ℕ} → Sized b at m count → g < count → LiftOne b m c g w w′ → Only m c w w′
 only-lift {b} {at} {m} {count} {c} {g} {w} {w′} A l O = go (same-or-not (cell w m c g) 0) (same-or-not (parentOf (graphIn b) g) noGroup)
   where
     go : (cell w m c g ≡ 0) ⊎ (cell w m c g ≢ 0) → (parentOf (graphIn b) g ≡ noGroup) ⊎ (parentOf (graphIn b) g ≢ noGroup) → Only m c w w′
     go (inl z) y = rw (O .unmarked z) (only-none m c w)
     go (inr nz) (inl t) = rw (O .top t) (only-none m c w)
-    go (inr nz) (inr nt) = rw (O .marked nz nt) (only-store w m c (parentOf (graphIn b) g) 1 (omega (arith, lift-parent A l refl nt, lift-few A)))
+    go (inr nz) (inr nt) = rw (O .marked nz nt) (only-store w m c (parentOf (graphIn b) g) 1 (omega (arith, lift-parent A l refl nt, sized-few A .0)))
 
-pub lift-more : {b : List ℕ} {at m count c g : ℕ} {w₀ w w′ : List ℕ} → LiftGiven b at m count → g < count → c < 16 → length w₀ ≡ 16 * m → LiftState b m count c g w₀ w → LiftOne b m c g w w′ → LiftState b m count c (g + 1) w₀ w′
+pub lift-more : {b : List ℕ} {at m count c g : ℕ} {w₀ w w′ : List ℕ} → Sized b at m count → g < count → c < 16 → length w₀ ≡ 16 * m → LiftState b m count c g w₀ w → LiftOne b m c g w w′ → LiftState b m count c (g + 1) w₀ w′
 lift-more {b} {at} {m} {count} {c} {g} {w₀} {w} {w′} A l lc sz S O = record {
   only = only-then (S .only) (only-lift A l O);
   marks = λ ranks M. lifted-more A ranks c g w (S .marks ranks M) l lc (S .only .length-is ∙ sz) O;
@@ -319,7 +308,7 @@ pub record LiftGives (b : List ℕ) (m count c : ℕ) (w w′ : List ℕ) : Type
   pub only : Only m c w w′
   pub marks : (ranks : List ℕ) → Marks (cell w m c) count (Own (graphIn b) ranks c m) → Marks (cell w′ m c) count (HeldBy (graphIn b) ranks c)
 
-pub lift-done : {b : List ℕ} {at m count c g : ℕ} {w w′ : List ℕ} → LiftGiven b at m count → LiftState b m count c g w w′ → count ≤ g → g ≤ count → LiftGives b m count c w w′
+pub lift-done : {b : List ℕ} {at m count c g : ℕ} {w w′ : List ℕ} → Sized b at m count → LiftState b m count c g w w′ → count ≤ g → g ≤ count → LiftGives b m count c w w′
 lift-done {b} {at} {m} {count} {c} {g} {w} {w′} A S l k = record {
   only = S .only;
   marks = λ ranks M. marks-as (S .marks ranks M) (λ x h. refl)
@@ -450,8 +439,8 @@ module _ {b : List ℕ} {n m at count k : ℕ} {named w : List ℕ} (A : HoldAsk
     omega (arith, few-accounts (GS .is-index), A .shape .accounts),
   )
 
-  pub hold-lift : LiftGiven b at m count
-  hold-lift = record { groups-at = GS; links = A .shape .links; groups = A .shape .groups }
+  pub hold-lift : Sized b at m count
+  hold-lift = shape-sized (A .shape)
 
   module _ {d : ℕ} {ranks′ : List ℕ} (R : RankState n k d named ranks′) where
     pub hold-columns : d ≤ 16

@@ -3,7 +3,8 @@ ghost use mathlib.Core.Path.{_≡_};
 ghost use Prim.Native.Nat.{_+_, _*_, _<_, _≤_};
 ghost use lib.ListN.{length};
 ghost use Rattle.columns.specs.Wiping.{Wiping};
-ghost use Rattle.holding.specs.Turns.{Clear, HoldAsks, HoldGives, LiftAll, LiftGiven, LiftGives, LiftOne, Marked, MarkGiven, MeetAll, MeetOne, Meets, OwnMarks};
+ghost use Rattle.stored.specs.Rows.{Sized};
+ghost use Rattle.holding.specs.Turns.{Clear, HoldAsks, HoldGives, LiftAll, LiftGives, LiftOne, Marked, MarkGiven, MeetAll, MeetOne, Meets, OwnMarks};
 use crate::ranks::rank_named;
 use columns::get;
 use columns::put;
@@ -90,7 +91,7 @@ fn mark_links(s: &[u8], w: &mut [u32], m: usize, count: usize, d: usize, ranks: 
 
 // The parent of group g, if g is marked in column c.
 fn lift(s: &[u8], at: usize, w: &mut [u32], m: usize, count: usize, c: usize, g: usize)
-    requires { ⌜ LiftGiven (now s) at m count ⌝ }
+    requires { ⌜ Sized (now s) at m count ⌝ }
     requires { ⌜ length (now w) ≡ 16 * m ⌝ }
     requires { ⌜ c < 16 ⌝ }
     requires { ⌜ g < count ⌝ }
@@ -108,7 +109,7 @@ fn lift(s: &[u8], at: usize, w: &mut [u32], m: usize, count: usize, c: usize, g:
 
 // All groups above those that are marked in column c. Numbers rise from a group to its parent, so one pass does.
 fn lift_column(s: &[u8], at: usize, w: &mut [u32], m: usize, count: usize, c: usize)
-    requires { ⌜ LiftGiven (now s) at m count ⌝ }
+    requires { ⌜ Sized (now s) at m count ⌝ }
     requires { ⌜ length (now w) ≡ 16 * m ⌝ }
     requires { ⌜ c < 16 ⌝ }
     ensures { λ _. ⌜ LiftGives (now (s .entry)) m count c (now (w .entry)) (now (w .exit)) ⌝ }
@@ -122,7 +123,7 @@ fn lift_column(s: &[u8], at: usize, w: &mut [u32], m: usize, count: usize, c: us
 
 // The same in the first d columns.
 fn lift_all(s: &[u8], at: usize, w: &mut [u32], m: usize, count: usize, d: usize)
-    requires { ⌜ LiftGiven (now s) at m count ⌝ }
+    requires { ⌜ Sized (now s) at m count ⌝ }
     requires { ⌜ length (now w) ≡ 16 * m ⌝ }
     requires { ⌜ d ≤ 16 ⌝ }
     ensures { λ _. ⌜ LiftAll (now (s .entry)) m count d (now (w .entry)) (now (w .exit)) ⌝ }

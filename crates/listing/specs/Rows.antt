@@ -37,7 +37,7 @@ use Rattle.wire.specs.Writing.{written, written-start, written-length, upTo, up
 use Rattle.index.specs.declared.Reply.{Reply as CReply}
 use Rattle.index.specs.Build.{replyIn, replied, Replies, reply-same, reply-with}
 use Rattle.index.specs.Read.{Opened, pairsIn}
-use Rattle.stored.specs.Rows.{graphIn, IsIndex, GroupsAt, Shape, parentOf, proper, fits-groups, few, few-links, few-accounts, parent-cases, opened-index, opened-graph, opened-shape}
+use Rattle.stored.specs.Rows.{graphIn, IsIndex, Shape, parentOf, proper, fits-groups, few, few-links, few-accounts, parent-cases, opened-index, opened-graph, opened-shape, Sized, shape-sized, sized-few}
 use Rattle.stored.specs.Rows.{long as whole-length}
 use Rattle.listing.specs.Touching.{UpGiven, Both, both-none, both-then, Small}
 use Rattle.listing.specs.Counting.{memberOf, holdsOf, how-few, Rounds, rounds-none, group-length, RoundState, both-kept, accounts-more}
@@ -84,7 +84,7 @@ count-few A = (
 )
 
 pub up-given : {b : List ℕ} {n m at count : ℕ} {w : List ℕ} (c : ℕ) → CountGiven b n m at count w → (3 < c) × (c < 16) → UpGiven b at m count c
-up-given c A h = record { groups-at = A .shape .groups-at; links = A .shape .links; groups = A .shape .groups; counter = h }
+up-given c A h = record { sized = shape-sized (A .shape); counter = h }
 
 -- the graph whose links column 0 names
 pub keys-named : {b : List ℕ} {n m at count : ℕ} {w w′ : List ℕ} → CountGiven b n m at count w → KeysFrom b m m w′ → Named (graphIn b) m n w′
@@ -157,7 +157,7 @@ module _ {b : List ℕ} {at m n count v : ℕ} {w₀ w start : List ℕ} (A : Ac
   lv = omega (arith, l, A .accounts)
 
   pub account-few : n ≤ 1024
-  account-few = omega (arith, few-accounts (A .given .groups-at .is-index), A .accounts)
+  account-few = omega (arith, few-accounts (A .given .sized .groups-at .is-index), A .accounts)
 
   pub start-room : (v + 1 < length start) × (startAt start v ≤ 2 * m) × (startAt start (v + 1) ≤ 2 * m)
   start-room = (omega (arith, S .near .long, lv), omega (arith, S .near .rises v lv, S .near .fits v lv), S .near .fits v lv)
@@ -173,13 +173,13 @@ module _ {b : List ℕ} {at m n count v : ℕ} {w₀ w start : List ℕ} (A : Ac
   }
     where
       in-range : (j : ℕ) → startAt start v ≤ j → j < startAt start (v + 1) → named w m j < m
-      in-range j a d = omega (arith, S .near .number-is v j lv a d, number-lt (graphIn b) (link v (other w m j)) (S .near .holds v j lv a d), A .given .links)
+      in-range j a d = omega (arith, S .near .number-is v j lv a d, number-lt (graphIn b) (link v (other w m j)) (S .near .holds v j lv a d), A .given .sized .links)
 
   pub account-more : {from until : ℕ} {w′ : List ℕ} → from ≡ startAt start v → until ≡ startAt start (v + 1) → RoundState b m count v from until w w′ → AccountState b m count (v + 1) w₀ w′ start
   account-more p q R = record {
     both = both-then (S .both) (R .both);
     near = near-kept (S .near) (both-kept (omega arith) (omega arith) (R .both));
-    rounds = accounts-more (A .given .groups-at .is-index) (A .given .groups) (S .near) lv p q (S .rounds) R;
+    rounds = accounts-more (A .given .sized .groups-at .is-index) (A .given .sized .groups) (S .near) lv p q (S .rounds) R;
   }
 
 -- ---- the whole
@@ -240,13 +240,11 @@ abbrev pub RowsGives : List ℕ → List ℕ → CReply → List ℕ → Type 0
 RowsGives b out r out′ = replied r out′ ≡ write (checkRoom (mapPassed rowList (readIndex b)) out) out
 
 pub record RowsAsks (b : List ℕ) (at m count : ℕ) (w : List ℕ) : Type 0 where
-  pub groups-at : GroupsAt b at
-  pub links : size (graphIn b) ≡ m
-  pub groups-are : groupCount (graphIn b) ≡ count
+  pub sized : Sized b at m count
   pub counted : Counted b m count w
 
 pub rows-few : {b : List ℕ} {at m count : ℕ} {w : List ℕ} → RowsAsks b at m count w → count ≤ 2048
-rows-few A = omega (arith, few (A .groups-at .is-index), few-links (A .groups-at .is-index), A .groups-are)
+rows-few A = omega (arith, sized-few (A .sized) .0, sized-few (A .sized) .1)
 
 pub record RowAsks (b : List ℕ) (at m count g : ℕ) (w : List ℕ) : Type 0 where
   pub all : RowsAsks b at m count w
@@ -254,13 +252,13 @@ pub record RowAsks (b : List ℕ) (at m count g : ℕ) (w : List ℕ) : Type 0 w
 
 module _ {b : List ℕ} {at m count g : ℕ} {w : List ℕ} (A : RowAsks b at m count g w) where
   I : IsIndex b
-  I = A .all .groups-at .is-index
+  I = A .all .sized .groups-at .is-index
 
   pub row-in : g < groupCount (graphIn b)
-  row-in = omega (arith, A .in-range, A .all .groups-are)
+  row-in = omega (arith, A .in-range, A .all .sized .groups)
 
   pub row-room : g < m
-  row-room = omega (arith, row-in, few I, A .all .links)
+  row-room = omega (arith, row-in, few I, A .all .sized .links)
 
   pub least-in : {e : ℕ} → e ≡ leastLink (stored (graphIn b) g) → e < size (graphIn b)
   least-in q =
@@ -350,7 +348,7 @@ module _ (b out : List ℕ) where
     opened-counts q = record { shape = opened-shape O; size-is = q }
 
     pub opened-rows : {w : List ℕ} → Counted b m count w → RowsAsks b (5 + 8 * m + 6 * joins) m count w
-    opened-rows C = record { groups-at = opened-shape O .groups-at; links = opened-shape O .links; groups-are = many; counted = C }
+    opened-rows C = record { sized = shape-sized (opened-shape O); counted = C }
 
     pub opened-few : (5 + 8 * m + 6 * joins ≤ 40960) × (count ≤ 2048)
     opened-few =

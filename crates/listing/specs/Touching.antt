@@ -19,18 +19,13 @@ use Rattle.laws.proofs.Stored.{groupCount, stored}
 use Rattle.laws.proofs.Tree.{parent-rises, group-rows-length}
 use Rattle.columns.specs.Columns.{cell, store}
 use Rattle.columns.specs.Laws.{upd-store, length-store, kept-column}
-use Rattle.stored.specs.Rows.{graphIn, IsIndex, GroupsAt, ownGroup, parentOf, proper, fits-groups, few, few-links, parent-cases, own-cases}
+use Rattle.stored.specs.Rows.{graphIn, IsIndex, ownGroup, parentOf, proper, fits-groups, few, parent-cases, own-cases, Sized, sized-few}
 use Rattle.listing.specs.Paths.{rising, onward, step-up, in-leads, leads-in}
 
 -- what the walk up asks of index and columns: c is the column that counts
 pub record UpGiven (b : List ℕ) (at m count c : ℕ) : Type 0 where
-  pub groups-at : GroupsAt b at
-  pub links : size (graphIn b) ≡ m
-  pub groups : groupCount (graphIn b) ≡ count
+  pub sized : Sized b at m count
   pub counter : (3 < c) × (c < 16)
-
-pub up-few : {b : List ℕ} {at m count c : ℕ} → UpGiven b at m count c → (count ≤ m) × (m ≤ 2048)
-up-few A = (omega (arith, few (A .groups-at .is-index), A .links, A .groups), omega (arith, few-links (A .groups-at .is-index), A .links))
 
 -- one more, if the last round was another
 abbrev pub bump : ℕ → ℕ → ℕ → ℕ
@@ -126,15 +121,15 @@ up-none {b} {at} {m} {count} {c} {g} {r} {w} A p = record {
 }
   where
     I : IsIndex b
-    I = A .groups-at .is-index
+    I = A .sized .groups-at .is-index
 
     go : (g ≡ noGroup) ⊎ (g < count) → (g ≡ noGroup) ⊎ Leads (index (graphIn b)) g g
     go (inl e) = inl e
-    go (inr l) = inr (arrived {g = g} (omega (arith, l, A .groups, group-rows-length (graphIn b) (proper I) (fits-groups I))))
+    go (inr l) = inr (arrived {g = g} (omega (arith, l, A .sized .groups, group-rows-length (graphIn b) (proper I) (fits-groups I))))
 
 module _ {b : List ℕ} {at m count c g r x : ℕ} {w₀ w : List ℕ} (A : UpGiven b at m count c) (S : UpState b m count c g r x w₀ w) (n : x ≢ noGroup) where
   I : IsIndex b
-  I = A .groups-at .is-index
+  I = A .sized .groups-at .is-index
 
   on-path : Leads (index (graphIn b)) g x
   on-path = go (S .place)
@@ -148,18 +143,18 @@ module _ {b : List ℕ} {at m count c g r x : ℕ} {w₀ w : List ℕ} (A : UpGi
   ends-in (Rattle.truss.specs.Stored.up l v) = ends-in v
 
   pub up-in : x < count
-  up-in = omega (arith, ends-in on-path, A .groups)
+  up-in = omega (arith, ends-in on-path, A .sized .groups)
 
   -- its counter is as it was
   pub up-count : cell w m c x ≡ cell w₀ m c x
   up-count = S .todo x up-in on-path (omega arith) .counted
 
   pub up-falls : {p : ℕ} → p ≡ parentOf (graphIn b) x → count - p < count - x
-  up-falls {p} q = go (parent-cases I x (omega (arith, up-in, A .groups)))
+  up-falls {p} q = go (parent-cases I x (omega (arith, up-in, A .sized .groups)))
     where
       go : (parentOf (graphIn b) x < groupCount (graphIn b)) ⊎ (parentOf (graphIn b) x ≡ noGroup) → count - p < count - x
-      go (inl l) = omega (arith, l, q, up-in, A .groups, parent-rises (graphIn b) (proper I) (fits-groups I) x (omega (arith, up-in, A .groups)) l)
-      go (inr e) = omega (arith, e, q, up-in, up-few A .0, up-few A .1)
+      go (inl l) = omega (arith, l, q, up-in, A .sized .groups, parent-rises (graphIn b) (proper I) (fits-groups I) x (omega (arith, up-in, A .sized .groups)) l)
+      go (inr e) = omega (arith, e, q, up-in, sized-few (A .sized) .0, sized-few (A .sized) .1)
 
   pub up-more : {p : ℕ} {w′ : List ℕ} → p ≡ parentOf (graphIn b) x → TouchOne m count c x r w w′ → UpState b m count c g r p w₀ w′
   up-more {p} {w′} q T = record {
@@ -171,14 +166,14 @@ module _ {b : List ℕ} {at m count c g r x : ℕ} {w₀ w : List ℕ} (A : UpGi
   }
     where
       lx : x < groupCount (graphIn b)
-      lx = omega (arith, up-in, A .groups)
+      lx = omega (arith, up-in, A .sized .groups)
 
       rises : x < p
       rises = go (parent-cases I x lx)
         where
           go : (parentOf (graphIn b) x < groupCount (graphIn b)) ⊎ (parentOf (graphIn b) x ≡ noGroup) → x < p
           go (inl l) = omega (arith, q, parent-rises (graphIn b) (proper I) (fits-groups I) x lx l)
-          go (inr e) = omega (arith, e, q, up-in, up-few A .0, up-few A .1)
+          go (inr e) = omega (arith, e, q, up-in, sized-few (A .sized) .0, sized-few (A .sized) .1)
 
       left-then : {h : ℕ} → Left m c h w w′ → Left m c h w₀ w → Left m c h w₀ w′
       left-then a d = record { stamp = a .stamp ∙ d .stamp; counted = a .counted ∙ d .counted }
@@ -205,7 +200,7 @@ pub record UpGives (b : List ℕ) (m count c g r : ℕ) (w w′ : List ℕ) : Ty
   pub off : (h : ℕ) → h < count → ¬ (Leads (index (graphIn b)) g h) → Left m c h w w′
 
 pub up-done : {b : List ℕ} {at m count c g r x : ℕ} {w w′ : List ℕ} → UpGiven b at m count c → UpState b m count c g r x w w′ → x ≡ noGroup → UpGives b m count c g r w w′
-up-done A S e = record { both = S .both; on = λ h l v. S .done h l v (omega (arith, e, l, up-few A .0, up-few A .1)); off = S .off }
+up-done A S e = record { both = S .both; on = λ h l v. S .done h l v (omega (arith, e, l, sized-few (A .sized) .0, sized-few (A .sized) .1)); off = S .off }
 
 -- ---- all groups that hold a link
 
@@ -217,15 +212,15 @@ pub record LinkGives (b : List ℕ) (m count c i r : ℕ) (w w′ : List ℕ) : 
 pub link-gives : {b : List ℕ} {at m count c i g r : ℕ} {w w′ : List ℕ} → UpGiven b at m count c → i < m → g ≡ ownGroup (graphIn b) i → UpGives b m count c g r w w′ → LinkGives b m count c i r w w′
 link-gives {b} {at} {m} {count} {c} {i} {g} A l q U = record {
   both = U .both;
-  on = λ h k v. U .on h k (subst (λ (y : ℕ). Leads (index (graphIn b)) y h) (sym q) (in-leads I i h li (omega (arith, k, A .groups)) v));
+  on = λ h k v. U .on h k (subst (λ (y : ℕ). Leads (index (graphIn b)) y h) (sym q) (in-leads I i h li (omega (arith, k, A .sized .groups)) v));
   off = λ h k nv. U .off h k (λ v. nv (leads-in I i h li (subst (λ (y : ℕ). Leads (index (graphIn b)) y h) q v)));
 }
   where
     I : IsIndex b
-    I = A .groups-at .is-index
+    I = A .sized .groups-at .is-index
 
     li : i < size (graphIn b)
-    li = omega (arith, l, A .links)
+    li = omega (arith, l, A .sized .links)
 
 -- ---- what the functions ask
 
@@ -238,8 +233,8 @@ abbrev pub UpFrom : ℕ → ℕ → Type 0
 UpFrom count g = (g ≡ noGroup) ⊎ (g < count)
 
 pub own-from : {b : List ℕ} {at m count c i g : ℕ} → UpGiven b at m count c → i < m → g ≡ ownGroup (graphIn b) i → UpFrom count g
-own-from {b} {at} {m} {count} {c} {i} {g} A l q = go (own-cases (A .groups-at .is-index) i (omega (arith, l, A .links)))
+own-from {b} {at} {m} {count} {c} {i} {g} A l q = go (own-cases (A .sized .groups-at .is-index) i (omega (arith, l, A .sized .links)))
   where
     go : ((ownGroup (graphIn b) i < groupCount (graphIn b)) × (minLevel ≤ strengthAt (graphIn b) i)) ⊎ ((ownGroup (graphIn b) i ≡ noGroup) × (strengthAt (graphIn b) i < minLevel)) → UpFrom count g
-    go (inl (x, y)) = inr (omega (arith, x, q, A .groups))
+    go (inl (x, y)) = inr (omega (arith, x, q, A .sized .groups))
     go (inr (x, y)) = inl (q ∙ x)

@@ -19,13 +19,12 @@ use Rattle.truss.specs.Question.{Answer, numbers, answer, outside, accountsIn, 
 use Rattle.laws.proofs.Lists.{test, true-not-false, both, and-left, and-right}
 use Rattle.laws.proofs.Numbers.{same-or-not, less-or-not}
 use Rattle.laws.proofs.Members.{any-in, in-any, in-getD, getD-in}
-use Rattle.laws.proofs.Groups.{size}
 use Rattle.laws.proofs.Stored.{groupCount, stored, noSuchGroup}
 use Rattle.laws.proofs.Answers.{D-only, D-all, numbers-in, in-numbers}
 use Rattle.columns.specs.Columns.{cell, store}
 use Rattle.columns.specs.Laws.{upd-store, length-store}
 use Rattle.wire.specs.Writing.{Tells, tells-yes, tells-no}
-use Rattle.stored.specs.Rows.{graphIn, GroupsAt, parentOf, parent-cases, few, few-links}
+use Rattle.stored.specs.Rows.{graphIn, parentOf, parent-cases, few, Sized, sized-few}
 use Rattle.holding.specs.Marks.{Marks, marks-as, marks-clear}
 use Rattle.holding.specs.Ranks.{Before, in-before, before-in}
 use Rattle.holding.specs.Turns.{Names, HoldGives}
@@ -183,14 +182,6 @@ E-marked {b} {m} {count} {named} {w} q H = numbers-marked (graphIn b) (holdsAll 
 
 -- ---- C: a mark stays if the group is a group at k
 
-pub record KeepGiven (b : List ℕ) (at m count : ℕ) : Type 0 where
-  pub groups-at : GroupsAt b at
-  pub links : size (graphIn b) ≡ m
-  pub groups-are : groupCount (graphIn b) ≡ count
-
-pub keep-few : {b : List ℕ} {at m count : ℕ} → KeepGiven b at m count → (count ≤ m) × (m ≤ 2048)
-keep-few A = (omega (arith, few (A .groups-at .is-index), A .links, A .groups-are), omega (arith, few-links (A .groups-at .is-index), A .links))
-
 -- one turn: the mark at g goes if the test fails
 pub record Kept (m g : ℕ) (r : Bool) (w w′ : List ℕ) : Type 0 where
   pub stays : r ≡ true → w′ ≡ w
@@ -229,9 +220,9 @@ keeping-done l K = marks-as (K .marks) (λ x k. refl) (λ x k p. (p .0, p .1 (om
 
 -- ---- the tests
 
-module _ {b : List ℕ} {at m count : ℕ} (A : KeepGiven b at m count) (k g : ℕ) (level : minLevel ≤ k) (l : g < count) where
+module _ {b : List ℕ} {at m count : ℕ} (A : Sized b at m count) (k g : ℕ) (level : minLevel ≤ k) (l : g < count) where
   lg : g < groupCount (graphIn b)
-  lg = omega (arith, A .groups-are)
+  lg = omega (arith, A .groups)
 
   pub level-weak : {s : ℕ} → s ≡ stored (graphIn b) g .strength → s < k → Tells false (isGroupAt (graphIn b) k (stored (graphIn b) g) ≡ true)
   level-weak q h = tells-no (too-weak (A .groups-at .is-index) level lg q h)
@@ -392,8 +383,8 @@ pub record KeepState (b : List ℕ) (m count g : ℕ) (Q : ℕ → Type 0) (w₀
 pub keep-none : {b : List ℕ} {m count : ℕ} {Q : ℕ → Type 0} {w : List ℕ} → length w ≡ 16 * m → KeepState b m count 0 Q w w
 keep-none q = record { size-is = q; marks = λ named H. keeping-none q (H .marks) }
 
-pub keep-more : {b : List ℕ} {at m count g : ℕ} {Q : ℕ → Type 0} {r : Bool} {w₀ w w′ : List ℕ} → KeepGiven b at m count → g < count → KeepState b m count g Q w₀ w → Tells r (Q g) → Kept m g r w w′ → KeepState b m count (g + 1) Q w₀ w′
-keep-more {b} {at} {m} {count} {g} {Q} {r} {w₀} {w} {w′} A l K S T = record { size-is = go r refl; marks = λ named H. keeping-more (keep-few A .0) l (K .marks named H) S T }
+pub keep-more : {b : List ℕ} {at m count g : ℕ} {Q : ℕ → Type 0} {r : Bool} {w₀ w w′ : List ℕ} → Sized b at m count → g < count → KeepState b m count g Q w₀ w → Tells r (Q g) → Kept m g r w w′ → KeepState b m count (g + 1) Q w₀ w′
+keep-more {b} {at} {m} {count} {g} {Q} {r} {w₀} {w} {w′} A l K S T = record { size-is = go r refl; marks = λ named H. keeping-more (sized-few A .0) l (K .marks named H) S T }
   where
     go : (t : Bool) → r ≡ t → length w′ ≡ 16 * m
     go true e = ap length (T .stays e) ∙ K .size-is

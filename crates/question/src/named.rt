@@ -7,9 +7,9 @@ ghost use Rattle.truss.specs.Limits.{minLevel};
 ghost use Rattle.truss.specs.Question.{ask-all, ask-groups-at, ask-strongest, isGroupAt};
 ghost use Rattle.laws.proofs.Stored.{stored};
 ghost use Rattle.wire.specs.Writing.{Tells};
-ghost use Rattle.stored.specs.Rows.{Shape, graphIn};
+ghost use Rattle.stored.specs.Rows.{Shape, Sized, graphIn};
 ghost use Rattle.question.specs.Replies.{Answers};
-ghost use Rattle.question.specs.Named.{AboveGives, Best, Counts, FaultGives, HeldGives, KeepGiven, Kept, LevelGives, StrongestGives};
+ghost use Rattle.question.specs.Named.{AboveGives, Best, Counts, FaultGives, HeldGives, Kept, LevelGives, StrongestGives};
 use crate::lists::give;
 use columns::get;
 use columns::put;
@@ -71,7 +71,7 @@ fn keep_if(w: &mut [u32], m: usize, g: usize, test: bool)
 
 // Whether stored group g is a group at k: its strength is at least k, and its parent, if it has one, is weaker.
 fn is_group_at(s: &[u8], at: usize, m: usize, count: usize, k: usize, g: usize) -> bool
-    requires { ⌜ KeepGiven (now s) at m count ⌝ }
+    requires { ⌜ Sized (now s) at m count ⌝ }
     requires { ⌜ minLevel ≤ k ⌝ }
     requires { ⌜ g < count ⌝ }
     ensures { λ r. ⌜ Tells r (isGroupAt (graphIn (now (s .entry))) k (stored (graphIn (now (s .entry))) g) ≡ true) ⌝ }
@@ -88,7 +88,7 @@ fn is_group_at(s: &[u8], at: usize, m: usize, count: usize, k: usize, g: usize) 
 
 // Marks stay at groups at k.
 fn keep_level(s: &[u8], at: usize, w: &mut [u32], m: usize, count: usize, k: usize)
-    requires { ⌜ KeepGiven (now s) at m count ⌝ }
+    requires { ⌜ Sized (now s) at m count ⌝ }
     requires { ⌜ length (now w) ≡ 16 * m ⌝ }
     requires { ⌜ minLevel ≤ k ⌝ }
     ensures { λ _. ⌜ LevelGives (now (s .entry)) m count k (now (w .entry)) (now (w .exit)) ⌝ }
@@ -103,7 +103,7 @@ fn keep_level(s: &[u8], at: usize, w: &mut [u32], m: usize, count: usize, k: usi
 
 // The greater of best and the strength of group g, if it is marked.
 fn better(s: &[u8], at: usize, w: &[u32], m: usize, count: usize, g: usize, best: usize) -> usize
-    requires { ⌜ KeepGiven (now s) at m count ⌝ }
+    requires { ⌜ Sized (now s) at m count ⌝ }
     requires { ⌜ length (now w) ≡ 16 * m ⌝ }
     requires { ⌜ g < count ⌝ }
     requires { ⌜ best < 256 ⌝ }
@@ -121,7 +121,7 @@ fn better(s: &[u8], at: usize, w: &[u32], m: usize, count: usize, g: usize, best
 
 // The greatest strength of the marked groups, 0 if there is none.
 fn greatest(s: &[u8], at: usize, w: &[u32], m: usize, count: usize) -> usize
-    requires { ⌜ KeepGiven (now s) at m count ⌝ }
+    requires { ⌜ Sized (now s) at m count ⌝ }
     requires { ⌜ length (now w) ≡ 16 * m ⌝ }
     ensures { λ r. ⌜ Best (graphIn (now (s .entry))) m count r (now (w .entry)) ⌝ }
 {
@@ -136,7 +136,7 @@ fn greatest(s: &[u8], at: usize, w: &[u32], m: usize, count: usize) -> usize
 
 // Marks stay at groups of at least a strength.
 fn keep_strongest(s: &[u8], at: usize, w: &mut [u32], m: usize, count: usize, best: usize)
-    requires { ⌜ KeepGiven (now s) at m count ⌝ }
+    requires { ⌜ Sized (now s) at m count ⌝ }
     requires { ⌜ length (now w) ≡ 16 * m ⌝ }
     ensures { λ _. ⌜ StrongestGives (now (s .entry)) m count best (now (w .entry)) (now (w .exit)) ⌝ }
 {

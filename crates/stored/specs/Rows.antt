@@ -55,12 +55,21 @@ pub record GroupsAt (b : List ℕ) (at : ℕ) : Type 0 where
   pub is-index : IsIndex b
   pub place : at ≡ groupsPlace (index (graphIn b))
 
+-- with the numbers of its links and groups
+pub record Sized (b : List ℕ) (at m count : ℕ) : Type 0 where
+  pub groups-at : GroupsAt b at
+  pub links : size (graphIn b) ≡ m
+  pub groups : groupCount (graphIn b) ≡ count
+
 -- with all its numbers
 pub record Shape (b : List ℕ) (n m at count : ℕ) : Type 0 where
   pub groups-at : GroupsAt b at
   pub accounts : graphIn b .n ≡ n
   pub links : size (graphIn b) ≡ m
   pub groups : groupCount (graphIn b) ≡ count
+
+pub shape-sized : {b : List ℕ} {n m at count : ℕ} → Shape b n m at count → Sized b at m count
+shape-sized S = record { groups-at = S .groups-at; links = S .links; groups = S .groups }
 
 number-cases : (p : Group → Bool) (gs : List Group) → (groupNumber p gs < length gs) ⊎ (groupNumber p gs ≡ noGroup)
 unfolding groupNumber
@@ -235,3 +244,6 @@ module _ {b : List ℕ} {n m joins count : ℕ} (O : Opened b n m joins count) w
         links = s;
         groups = sym (k ∙ group-rows-length (graphIn b) (proper I) (fits-groups I));
       }
+
+pub sized-few : {b : List ℕ} {at m count : ℕ} → Sized b at m count → (count ≤ m) × (m ≤ 2048)
+sized-few A = (omega (arith, few (A .groups-at .is-index), A .links, A .groups), omega (arith, few-links (A .groups-at .is-index), A .links))

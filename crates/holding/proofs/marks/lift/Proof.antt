@@ -1,5 +1,6 @@
 use native.Mathlib.Omega.{arith}
-use Rattle.holding.specs.Turns.{lift-unmarked, lift-top, lift-marked, lift-parent, lift-few}
+use Rattle.holding.specs.Turns.{lift-unmarked, lift-top, lift-marked, lift-parent}
+use Rattle.stored.specs.Rows.{sized-few}
 use borrow.Author.Needs.{needs}
 use Rattle.holding.proofs.marks.lift.Statement.{statement}
 use Rattle.holding.proofs.marks.lift.Tie as tie
@@ -11,7 +12,7 @@ use Rattle.stored.proofs.rows.group_parent.Reads as group-parent-reads
 
 -- src/marks.rt:99:8
 get-requires : tie.Need-get-requires
-get-requires c κs = (c .before .before .before .pre .1 .1 .0, (omega (arith, c .before .before .before .pre .1 .1 .1, lift-few (c .before .before .before .pre .0)), c .before .before .before .pre .1 .0))
+get-requires c κs = (c .before .before .before .pre .1 .1 .0, (omega (arith, c .before .before .before .pre .1 .1 .1, sized-few (c .before .before .before .pre .0) .0), c .before .before .before .pre .1 .0))
 
 -- src/marks.rt:100:9
 same-length : tie.Need-same-length
@@ -35,7 +36,7 @@ returns-2 c = lift-top (c .before .group-parent .ensures) (c .if2 .taken)
 
 -- src/marks.rt:106:5
 put-requires : tie.Need-put-requires
-put-requires c κs = (c .before .before .before .before .before .before .before .before .pre .1 .1 .0, (omega (arith, lift-parent (c .before .before .before .before .before .before .before .before .pre .0) (c .before .before .before .before .before .before .before .before .pre .1 .1 .1) (c .before .before .group-parent .ensures) (c .before .if2 .left), lift-few (c .before .before .before .before .before .before .before .before .pre .0)), (omega arith, c .before .before .before .before .before .before .before .before .pre .1 .0)))
+put-requires c κs = (c .before .before .before .before .before .before .before .before .pre .1 .1 .0, (omega (arith, lift-parent (c .before .before .before .before .before .before .before .before .pre .0) (c .before .before .before .before .before .before .before .before .pre .1 .1 .1) (c .before .before .group-parent .ensures) (c .before .if2 .left), sized-few (c .before .before .before .before .before .before .before .before .pre .0) .0), (omega arith, c .before .before .before .before .before .before .before .before .pre .1 .0)))
 
 -- src/marks.rt:92:1
 same-length-3 : tie.Need-same-length-3

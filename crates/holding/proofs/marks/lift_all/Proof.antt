@@ -1,7 +1,8 @@
 use native.Mathlib.Omega.{arith}
 use mathlib.Core.Path.{_≡_, _∙_}
 use Prim.Native.Nat.{_-_, _≤_}
-use Rattle.holding.specs.Turns.{LiftAll, lift-all-none, lift-all-more, lift-few}
+use Rattle.holding.specs.Turns.{LiftAll, lift-all-none, lift-all-more}
+use Rattle.stored.specs.Rows.{sized-few}
 use Rattle.holding.proofs.marks.lift_all.Statement.{statement}
 use Rattle.holding.proofs.marks.lift_all.Tie as tie
 use Rattle.holding.proofs.marks.lift_all.Reads as reads
@@ -32,7 +33,7 @@ loop-less c = omega (arith, c .before .before .before .before .loop-test .taken)
 
 -- src/marks.rt:131:5
 loop-again : tie.Need-loop-again Inv-loop μ-loop
-loop-again c = (omega (arith, c .before .before .before .before .loop-test .taken), lift-all-more (lift-few (c .before .before .before .before .before .before .before .before .pre .0)) (c .before .before .before .before .before .loop .inv .1) (c .before .before .lift-column .ensures))
+loop-again c = (omega (arith, c .before .before .before .before .loop-test .taken), lift-all-more (sized-few (c .before .before .before .before .before .before .before .before .pre .0) .0) (c .before .before .before .before .before .loop .inv .1) (c .before .before .lift-column .ensures))
 
 -- src/marks.rt:124:1
 same-length : tie.Need-same-length Inv-loop μ-loop

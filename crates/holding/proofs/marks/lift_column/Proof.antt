@@ -1,7 +1,8 @@
 use native.Mathlib.Omega.{arith}
 use mathlib.Core.Path.{_∙_}
 use Prim.Native.Nat.{_-_, _≤_}
-use Rattle.holding.specs.Turns.{LiftState, lift-none, lift-more, lift-done, lift-few, lift-all-few}
+use Rattle.holding.specs.Turns.{LiftState, lift-none, lift-more, lift-done}
+use Rattle.stored.specs.Rows.{sized-few}
 use Rattle.holding.proofs.marks.lift_column.Statement.{statement}
 use Rattle.holding.proofs.marks.lift_column.Tie as tie
 use Rattle.holding.proofs.marks.lift_column.Reads as reads
@@ -24,7 +25,7 @@ lift-requires c κs = (c .before .before .before .before .before .pre .0, (c .be
 
 -- src/marks.rt:119:9
 add-g : tie.Need-add-g Inv-loop μ-loop
-add-g c = omega (arith, c .before .before .before .before .loop-test .taken, lift-few (c .before .before .before .before .before .before .before .before .pre .0), lift-all-few (c .before .before .before .before .before .before .before .before .pre .0))
+add-g c = omega (arith, c .before .before .before .before .loop-test .taken, sized-few (c .before .before .before .before .before .before .before .before .pre .0) .0, sized-few (c .before .before .before .before .before .before .before .before .pre .0) .1)
 
 -- src/marks.rt:117:5
 loop-less : tie.Need-loop-less Inv-loop μ-loop

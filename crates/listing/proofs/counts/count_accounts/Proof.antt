@@ -1,7 +1,7 @@
 use native.Mathlib.Omega.{arith}
 use mathlib.Core.Path.{_≡_, refl}
 use Prim.Native.Nat.{_-_, _≤_}
-use Rattle.listing.specs.Touching.{up-few}
+use Rattle.stored.specs.Rows.{sized-few}
 use Rattle.listing.specs.Rows.{AccountState, account-none, account-few, start-room, account-asks, account-more}
 use Rattle.listing.proofs.counts.count_accounts.Statement.{statement}
 use Rattle.listing.proofs.counts.count_accounts.Tie as tie
@@ -29,7 +29,7 @@ shared-slice-read-from c = omega (arith, start-room (c .before .before .before .
 
 -- src/counts.rt:120:20
 cast-from : tie.Need-cast-from Inv-loop μ-loop
-cast-from c = omega (arith, start-room (c .before .before .before .before .before .before .pre) (c .before .before .loop .inv .1) (c .before .loop-test .taken) .1, up-few (c .before .before .before .before .before .before .pre .given) .1)
+cast-from c = omega (arith, start-room (c .before .before .before .before .before .before .pre) (c .before .before .loop .inv .1) (c .before .loop-test .taken) .1, sized-few (c .before .before .before .before .before .before .pre .given .sized) .1)
 
 -- src/counts.rt:121:27
 add-until : tie.Need-add-until Inv-loop μ-loop
@@ -45,7 +45,7 @@ shared-slice-read-until c = start-room (c .before .before .before .before .befor
 
 -- src/counts.rt:121:21
 cast-until : tie.Need-cast-until Inv-loop μ-loop
-cast-until c = omega (arith, start-room (c .before .before .before .before .before .before .before .pre) (c .before .before .before .loop .inv .1) (c .before .before .loop-test .taken) .2, up-few (c .before .before .before .before .before .before .before .pre .given) .1)
+cast-until c = omega (arith, start-room (c .before .before .before .before .before .before .before .pre) (c .before .before .before .loop .inv .1) (c .before .before .loop-test .taken) .2, sized-few (c .before .before .before .before .before .before .before .pre .given .sized) .1)
 
 -- src/counts.rt:122:9
 touch-account-requires : tie.Need-touch-account-requires Inv-loop μ-loop

@@ -2,7 +2,8 @@ use native.Mathlib.Omega.{arith}
 use mathlib.Core.Path.{_≡_}
 use Prim.Native.Nat.{_-_, _≤_}
 use Rattle.stored.specs.Rows.{graphIn}
-use Rattle.listing.specs.Touching.{Both, both-none, both-then, up-few}
+use Rattle.listing.specs.Touching.{Both, both-none, both-then}
+use Rattle.stored.specs.Rows.{sized-few}
 use Rattle.listing.specs.Counting.{Rounds, memberOf, links-more}
 use Rattle.listing.specs.Rows.{rounds-small}
 use Rattle.listing.proofs.counts.count_links.Statement.{statement}
@@ -23,15 +24,15 @@ loop-holds c = (omega arith, both-none, c .before .before .pre .rounds)
 
 -- src/counts.rt:95:46
 add-touch-link : tie.Need-add-touch-link Inv-loop μ-loop
-add-touch-link c = omega (arith, c .before .loop-test .taken, up-few (c .before .before .before .before .before .pre .given) .1)
+add-touch-link c = omega (arith, c .before .loop-test .taken, sized-few (c .before .before .before .before .before .pre .given .sized) .1)
 
 -- src/counts.rt:95:9
 touch-link-requires : tie.Need-touch-link-requires Inv-loop μ-loop
-touch-link-requires c κs = (c .before .before .before .before .before .pre .given, (c .before .loop-test .taken, (c .before .before .loop .inv .2 .size-is, (rounds-small (omega (arith, c .before .loop-test .taken, up-few (c .before .before .before .before .before .pre .given) .1)) (c .before .before .loop .inv .2), omega (arith, c .before .loop-test .taken, up-few (c .before .before .before .before .before .pre .given) .1)))))
+touch-link-requires c κs = (c .before .before .before .before .before .pre .given, (c .before .loop-test .taken, (c .before .before .loop .inv .2 .size-is, (rounds-small (omega (arith, c .before .loop-test .taken, sized-few (c .before .before .before .before .before .pre .given .sized) .1)) (c .before .before .loop .inv .2), omega (arith, c .before .loop-test .taken, sized-few (c .before .before .before .before .before .pre .given .sized) .1)))))
 
 -- src/counts.rt:96:9
 add-i : tie.Need-add-i Inv-loop μ-loop
-add-i c = omega (arith, c .before .before .before .before .loop-test .taken, up-few (c .before .before .before .before .before .before .before .before .pre .given) .1)
+add-i c = omega (arith, c .before .before .before .before .loop-test .taken, sized-few (c .before .before .before .before .before .before .before .before .pre .given .sized) .1)
 
 -- src/counts.rt:94:5
 loop-less : tie.Need-loop-less Inv-loop μ-loop

@@ -1,7 +1,7 @@
 use native.Mathlib.Omega.{arith}
 use mathlib.Core.Path.{_≡_, _∙_}
 use Prim.Native.Nat.{_-_, _≤_}
-use Rattle.listing.specs.Touching.{up-few}
+use Rattle.stored.specs.Rows.{sized-few}
 use Rattle.listing.specs.Counting.{RoundState, round-none, round-more}
 use Rattle.listing.specs.Rows.{round-link, round-small}
 use Rattle.listing.proofs.counts.touch_account.Statement.{statement}
@@ -35,7 +35,7 @@ touch-link-requires c κs = (c .before .before .before .before .before .before .
 
 -- src/counts.rt:109:9
 add-j : tie.Need-add-j Inv-loop μ-loop
-add-j c = omega (arith, c .before .before .before .before .before .before .loop-test .taken, c .before .before .before .before .before .before .before .before .before .before .pre .last, up-few (c .before .before .before .before .before .before .before .before .before .before .pre .given) .1)
+add-j c = omega (arith, c .before .before .before .before .before .before .loop-test .taken, c .before .before .before .before .before .before .before .before .before .before .pre .last, sized-few (c .before .before .before .before .before .before .before .before .before .before .pre .given .sized) .1)
 
 -- src/counts.rt:106:5
 loop-less : tie.Need-loop-less Inv-loop μ-loop

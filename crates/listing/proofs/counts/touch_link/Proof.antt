@@ -10,7 +10,7 @@ use Rattle.stored.proofs.rows.link_group.Reads as link-group-reads
 
 -- src/counts.rt:84:9
 link-group-requires : tie.Need-link-group-requires
-link-group-requires c κs = (c .before .before .pre .0 .groups-at .is-index, omega (arith, c .before .before .pre .1 .0, c .before .before .pre .0 .links))
+link-group-requires c κs = (c .before .before .pre .0 .sized .groups-at .is-index, omega (arith, c .before .before .pre .1 .0, c .before .before .pre .0 .sized .links))
 
 -- src/counts.rt:85:5
 touch-up-requires : tie.Need-touch-up-requires

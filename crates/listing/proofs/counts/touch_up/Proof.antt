@@ -1,7 +1,8 @@
 use native.Mathlib.Omega.{arith}
 use mathlib.Core.Path.{_∙_}
 use Prim.Native.Nat.{_-_}
-use Rattle.listing.specs.Touching.{UpState, up-none, up-few, up-in, up-count, up-falls, up-more, up-done}
+use Rattle.listing.specs.Touching.{UpState, up-none, up-in, up-count, up-falls, up-more, up-done}
+use Rattle.stored.specs.Rows.{sized-few}
 use Rattle.listing.proofs.counts.touch_up.Statement.{statement}
 use Rattle.listing.proofs.counts.touch_up.Tie as tie
 use Rattle.listing.proofs.counts.touch_up.Reads as reads
@@ -21,11 +22,11 @@ loop-holds c = up-none (c .before .before .pre .0) (c .before .before .pre .1 .0
 
 -- src/counts.rt:70:9
 touch-requires : tie.Need-touch-requires Inv-loop μ-loop
-touch-requires c κs = let l = up-in (c .before .before .before .before .before .pre .0) (c .before .before .loop .inv) (c .before .loop-test .taken) in (c .before .before .loop .inv .both .length-is ∙ c .before .before .before .before .before .pre .1 .1 .0, (up-few (c .before .before .before .before .before .pre .0) .0, (omega (arith, l, up-few (c .before .before .before .before .before .pre .0) .0), (c .before .before .before .before .before .pre .0 .counter .0, (c .before .before .before .before .before .pre .0 .counter .1, (c .before .before .before .before .before .pre .1 .1 .1 .1, omega (arith, up-count (c .before .before .before .before .before .pre .0) (c .before .before .loop .inv) (c .before .loop-test .taken), c .before .before .before .before .before .pre .1 .1 .1 .0 (c .before .before .loop .x) l)))))))
+touch-requires c κs = let l = up-in (c .before .before .before .before .before .pre .0) (c .before .before .loop .inv) (c .before .loop-test .taken) in (c .before .before .loop .inv .both .length-is ∙ c .before .before .before .before .before .pre .1 .1 .0, (sized-few (c .before .before .before .before .before .pre .0 .sized) .0, (omega (arith, l, sized-few (c .before .before .before .before .before .pre .0 .sized) .0), (c .before .before .before .before .before .pre .0 .counter .0, (c .before .before .before .before .before .pre .0 .counter .1, (c .before .before .before .before .before .pre .1 .1 .1 .1, omega (arith, up-count (c .before .before .before .before .before .pre .0) (c .before .before .loop .inv) (c .before .loop-test .taken), c .before .before .before .before .before .pre .1 .1 .1 .0 (c .before .before .loop .x) l)))))))
 
 -- src/counts.rt:71:9
 group-parent-requires : tie.Need-group-parent-requires Inv-loop μ-loop
-group-parent-requires c κs = (c .before .before .before .before .before .before .before .before .pre .0 .groups-at, omega (arith, up-in (c .before .before .before .before .before .before .before .before .pre .0) (c .before .before .before .before .before .loop .inv) (c .before .before .before .before .loop-test .taken), c .before .before .before .before .before .before .before .before .pre .0 .groups))
+group-parent-requires c κs = (c .before .before .before .before .before .before .before .before .pre .0 .sized .groups-at, omega (arith, up-in (c .before .before .before .before .before .before .before .before .pre .0) (c .before .before .before .before .before .loop .inv) (c .before .before .before .before .loop-test .taken), c .before .before .before .before .before .before .before .before .pre .0 .sized .groups))
 
 -- src/counts.rt:69:5
 loop-less : tie.Need-loop-less Inv-loop μ-loop

@@ -19,11 +19,11 @@ use Rattle.stored.proofs.rows.link_lower.Reads as link-lower-reads
 
 -- src/rows.rt:28:9
 group-least-requires : tie.Need-group-least-requires
-group-least-requires c κs = (c .before .before .before .pre .0 .all .groups-at, row-in (c .before .before .before .pre .0))
+group-least-requires c κs = (c .before .before .before .pre .0 .all .sized .groups-at, row-in (c .before .before .before .pre .0))
 
 -- src/rows.rt:29:14
 group-strength-requires : tie.Need-group-strength-requires
-group-strength-requires c κs = (c .before .before .before .before .pre .0 .all .groups-at, row-in (c .before .before .before .before .pre .0))
+group-strength-requires c κs = (c .before .before .before .before .pre .0 .all .sized .groups-at, row-in (c .before .before .before .before .pre .0))
 
 -- src/rows.rt:29:14
 cast-out : tie.Need-cast-out
@@ -35,7 +35,7 @@ slice-write-out c = search needs
 
 -- src/rows.rt:30:14
 group-parent-requires : tie.Need-group-parent-requires
-group-parent-requires c κs = (c .before .before .before .before .before .pre .0 .all .groups-at, row-in (c .before .before .before .before .before .pre .0))
+group-parent-requires c κs = (c .before .before .before .before .before .pre .0 .all .sized .groups-at, row-in (c .before .before .before .before .before .pre .0))
 
 -- src/rows.rt:30:14
 cast-out-2 : tie.Need-cast-out-2
@@ -71,11 +71,11 @@ slice-write-out-4 c = simp length-set (omega (arith, c .before .before .before .
 
 -- src/rows.rt:33:14
 link-lower-requires : tie.Need-link-lower-requires
-link-lower-requires c κs = (c .before .before .before .before .before .before .before .before .pre .0 .all .groups-at .is-index, least-in (c .before .before .before .before .before .before .before .before .pre .0) (c .before .before .before .before .group-least .ensures))
+link-lower-requires c κs = (c .before .before .before .before .before .before .before .before .pre .0 .all .sized .groups-at .is-index, least-in (c .before .before .before .before .before .before .before .before .pre .0) (c .before .before .before .before .group-least .ensures))
 
 -- src/rows.rt:33:14
 cast-out-5 : tie.Need-cast-out-5
-cast-out-5 c = omega (arith, c .link-lower .ensures, key-small (c .before .before .before .before .before .before .before .before .before .pre .0 .all .groups-at .is-index) (c .before .before .before .before .before .group-least .result) (least-in (c .before .before .before .before .before .before .before .before .before .pre .0) (c .before .before .before .before .before .group-least .ensures)) .0)
+cast-out-5 c = omega (arith, c .link-lower .ensures, key-small (c .before .before .before .before .before .before .before .before .before .pre .0 .all .sized .groups-at .is-index) (c .before .before .before .before .before .group-least .result) (least-in (c .before .before .before .before .before .before .before .before .before .pre .0) (c .before .before .before .before .before .group-least .ensures)) .0)
 
 -- src/rows.rt:33:5
 slice-write-out-5 : tie.Need-slice-write-out-5
@@ -83,11 +83,11 @@ slice-write-out-5 c = simp length-set (omega (arith, c .before .before .before .
 
 -- src/rows.rt:34:14
 link-higher-requires : tie.Need-link-higher-requires
-link-higher-requires c κs = (c .before .before .before .before .before .before .before .before .before .pre .0 .all .groups-at .is-index, least-in (c .before .before .before .before .before .before .before .before .before .pre .0) (c .before .before .before .before .before .group-least .ensures))
+link-higher-requires c κs = (c .before .before .before .before .before .before .before .before .before .pre .0 .all .sized .groups-at .is-index, least-in (c .before .before .before .before .before .before .before .before .before .pre .0) (c .before .before .before .before .before .group-least .ensures))
 
 -- src/rows.rt:34:14
 cast-out-6 : tie.Need-cast-out-6
-cast-out-6 c = omega (arith, c .link-higher .ensures, key-small (c .before .before .before .before .before .before .before .before .before .before .pre .0 .all .groups-at .is-index) (c .before .before .before .before .before .before .group-least .result) (least-in (c .before .before .before .before .before .before .before .before .before .before .pre .0) (c .before .before .before .before .before .before .group-least .ensures)) .1)
+cast-out-6 c = omega (arith, c .link-higher .ensures, key-small (c .before .before .before .before .before .before .before .before .before .before .pre .0 .all .sized .groups-at .is-index) (c .before .before .before .before .before .before .group-least .result) (least-in (c .before .before .before .before .before .before .before .before .before .before .pre .0) (c .before .before .before .before .before .before .group-least .ensures)) .1)
 
 -- src/rows.rt:34:5
 slice-write-out-6 : tie.Need-slice-write-out-6

@@ -1,5 +1,6 @@
 use native.Mathlib.Omega.{arith}
-use Rattle.question.specs.Named.{keep-few, counts-unmarked, counts-less, counts-more}
+use Rattle.question.specs.Named.{counts-unmarked, counts-less, counts-more}
+use Rattle.stored.specs.Rows.{sized-few}
 use Rattle.question.proofs.named.better.Statement.{statement}
 use Rattle.question.proofs.named.better.Tie as tie
 use Rattle.question.proofs.named.better.Reads as reads
@@ -9,7 +10,7 @@ use Rattle.stored.proofs.rows.group_strength.Reads as group-strength-reads
 
 -- src/named.rt:113:8
 get-requires : tie.Need-get-requires
-get-requires c κs = (omega arith, (omega (arith, c .before .before .pre .1 .1 .0, keep-few (c .before .before .pre .0) .0), c .before .before .pre .1 .0))
+get-requires c κs = (omega arith, (omega (arith, c .before .before .pre .1 .1 .0, sized-few (c .before .before .pre .0) .0), c .before .before .pre .1 .0))
 
 -- src/named.rt:114:9
 returns : tie.Need-returns
@@ -17,7 +18,7 @@ returns c = counts-unmarked (c .before .get .ensures .0) (c .if1 .taken) (c .bef
 
 -- src/named.rt:116:9
 group-strength-requires : tie.Need-group-strength-requires
-group-strength-requires c κs = (c .before .before .before .before .pre .0 .groups-at, omega (arith, c .before .before .before .before .pre .1 .1 .0, c .before .before .before .before .pre .0 .groups-are))
+group-strength-requires c κs = (c .before .before .before .before .pre .0 .groups-at, omega (arith, c .before .before .before .before .pre .1 .1 .0, c .before .before .before .before .pre .0 .groups))
 
 -- src/named.rt:118:9
 returns-2 : tie.Need-returns-2

@@ -2,7 +2,8 @@ use native.Mathlib.Omega.{arith}
 use mathlib.Core.Path.{_≡_}
 use Prim.Native.Nat.{_-_, _≤_}
 use Rattle.stored.specs.Rows.{graphIn}
-use Rattle.question.specs.Named.{Best, best-none, best-more, keep-few}
+use Rattle.question.specs.Named.{Best, best-none, best-more}
+use Rattle.stored.specs.Rows.{sized-few}
 use Rattle.question.proofs.named.greatest.Statement.{statement}
 use Rattle.question.proofs.named.greatest.Tie as tie
 use Rattle.question.proofs.named.greatest.Reads as reads
@@ -25,7 +26,7 @@ better-requires c κs = (c .before .before .before .before .pre .0, (c .before .
 
 -- src/named.rt:133:9
 add-g : tie.Need-add-g Inv-loop μ-loop
-add-g c = omega (arith, c .before .loop-test .taken, keep-few (c .before .before .before .before .before .pre .0) .0, keep-few (c .before .before .before .before .before .pre .0) .1)
+add-g c = omega (arith, c .before .loop-test .taken, sized-few (c .before .before .before .before .before .pre .0) .0, sized-few (c .before .before .before .before .before .pre .0) .1)
 
 -- src/named.rt:131:5
 loop-less : tie.Need-loop-less Inv-loop μ-loop

@@ -55,7 +55,7 @@ returns-3 c = answer-refused (graphIn (c .before .before .before .before .before
 
 -- src/named.rt:200:5
 keep-level-requires : tie.Need-keep-level-requires
-keep-level-requires c κs = (record { groups-at = c .before .before .before .before .before .before .before .before .before .before .before .before .pre .0 .groups-at; links = c .before .before .before .before .before .before .before .before .before .before .before .before .pre .0 .links; groups-are = c .before .before .before .before .before .before .before .before .before .before .before .before .pre .0 .groups }, (c .before .before .before .before .before .before .hold-named .ensures .size-is, c .before .before .if2 .left))
+keep-level-requires c κs = (record { groups-at = c .before .before .before .before .before .before .before .before .before .before .before .before .pre .0 .groups-at; links = c .before .before .before .before .before .before .before .before .before .before .before .before .pre .0 .links; groups = c .before .before .before .before .before .before .before .before .before .before .before .before .pre .0 .groups }, (c .before .before .before .before .before .before .hold-named .ensures .size-is, c .before .before .if2 .left))
 
 -- src/named.rt:201:5
 give-requires : tie.Need-give-requires

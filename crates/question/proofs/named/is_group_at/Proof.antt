@@ -9,7 +9,7 @@ use Rattle.stored.proofs.rows.group_strength.Reads as group-strength-reads
 
 -- src/named.rt:80:8
 group-strength-requires : tie.Need-group-strength-requires
-group-strength-requires c κs = (c .before .pre .0 .groups-at, omega (arith, c .before .pre .1 .1, c .before .pre .0 .groups-are))
+group-strength-requires c κs = (c .before .pre .0 .groups-at, omega (arith, c .before .pre .1 .1, c .before .pre .0 .groups))
 
 -- src/named.rt:81:9
 returns : tie.Need-returns
@@ -17,7 +17,7 @@ returns c = level-weak (c .before .before .before .pre .0) (c .before .before .b
 
 -- src/named.rt:83:9
 group-parent-requires : tie.Need-group-parent-requires
-group-parent-requires c κs = (c .before .before .before .pre .0 .groups-at, omega (arith, c .before .before .before .pre .1 .1, c .before .before .before .pre .0 .groups-are))
+group-parent-requires c κs = (c .before .before .before .pre .0 .groups-at, omega (arith, c .before .before .before .pre .1 .1, c .before .before .before .pre .0 .groups))
 
 -- src/named.rt:85:9
 returns-2 : tie.Need-returns-2

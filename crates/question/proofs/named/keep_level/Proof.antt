@@ -1,7 +1,8 @@
 use native.Mathlib.Omega.{arith}
 use mathlib.Core.Path.{sym, _∙_}
 use Prim.Native.Nat.{_-_, _≤_}
-use Rattle.question.specs.Named.{KeepState, AtLevel, keep-few, keep-none, keep-more, level-done}
+use Rattle.question.specs.Named.{KeepState, AtLevel, keep-none, keep-more, level-done}
+use Rattle.stored.specs.Rows.{sized-few}
 use Rattle.question.proofs.named.keep_level.Statement.{statement}
 use Rattle.question.proofs.named.keep_level.Tie as tie
 use Rattle.question.proofs.named.keep_level.Reads as reads
@@ -25,11 +26,11 @@ is-group-at-requires c κs = (c .before .before .before .before .pre .0, (c .bef
 
 -- src/named.rt:100:9
 keep-if-requires : tie.Need-keep-if-requires Inv-loop μ-loop
-keep-if-requires c κs = (c .before .before .before .loop .inv .1 .size-is, omega (arith, c .before .before .loop-test .taken, keep-few (c .before .before .before .before .before .before .pre .0) .0))
+keep-if-requires c κs = (c .before .before .before .loop .inv .1 .size-is, omega (arith, c .before .before .loop-test .taken, sized-few (c .before .before .before .before .before .before .pre .0) .0))
 
 -- src/named.rt:101:9
 add-g : tie.Need-add-g Inv-loop μ-loop
-add-g c = omega (arith, c .before .before .before .before .before .loop-test .taken, keep-few (c .before .before .before .before .before .before .before .before .before .pre .0) .0, keep-few (c .before .before .before .before .before .before .before .before .before .pre .0) .1)
+add-g c = omega (arith, c .before .before .before .before .before .loop-test .taken, sized-few (c .before .before .before .before .before .before .before .before .before .pre .0) .0, sized-few (c .before .before .before .before .before .before .before .before .before .pre .0) .1)
 
 -- src/named.rt:98:5
 loop-less : tie.Need-loop-less Inv-loop μ-loop

@@ -1,7 +1,8 @@
 use native.Mathlib.Omega.{arith}
 use mathlib.Core.Path.{sym, _∙_}
 use Prim.Native.Nat.{_-_, _≤_}
-use Rattle.question.specs.Named.{KeepState, AsStrong, keep-few, keep-none, keep-more, strongest-done, strong-tells}
+use Rattle.question.specs.Named.{KeepState, AsStrong, keep-none, keep-more, strongest-done, strong-tells}
+use Rattle.stored.specs.Rows.{sized-few}
 use Rattle.question.proofs.named.keep_strongest.Statement.{statement}
 use Rattle.question.proofs.named.keep_strongest.Tie as tie
 use Rattle.question.proofs.named.keep_strongest.Reads as reads
@@ -21,15 +22,15 @@ loop-holds c = (omega arith, keep-none (c .before .before .pre .1))
 
 -- src/named.rt:146:13
 group-strength-requires : tie.Need-group-strength-requires Inv-loop μ-loop
-group-strength-requires c κs = (c .before .before .before .before .pre .0 .groups-at, omega (arith, c .loop-test .taken, c .before .before .before .before .pre .0 .groups-are))
+group-strength-requires c κs = (c .before .before .before .before .pre .0 .groups-at, omega (arith, c .loop-test .taken, c .before .before .before .before .pre .0 .groups))
 
 -- src/named.rt:147:9
 keep-if-requires : tie.Need-keep-if-requires Inv-loop μ-loop
-keep-if-requires c κs = (c .before .before .before .loop .inv .1 .size-is, omega (arith, c .before .before .loop-test .taken, keep-few (c .before .before .before .before .before .before .pre .0) .0))
+keep-if-requires c κs = (c .before .before .before .loop .inv .1 .size-is, omega (arith, c .before .before .loop-test .taken, sized-few (c .before .before .before .before .before .before .pre .0) .0))
 
 -- src/named.rt:148:9
 add-g : tie.Need-add-g Inv-loop μ-loop
-add-g c = omega (arith, c .before .before .before .before .before .loop-test .taken, keep-few (c .before .before .before .before .before .before .before .before .before .pre .0) .0, keep-few (c .before .before .before .before .before .before .before .before .before .pre .0) .1)
+add-g c = omega (arith, c .before .before .before .before .before .loop-test .taken, sized-few (c .before .before .before .before .before .before .before .before .before .pre .0) .0, sized-few (c .before .before .before .before .before .before .before .before .before .pre .0) .1)
 
 -- src/named.rt:145:5
 loop-less : tie.Need-loop-less Inv-loop μ-loop

@@ -32,11 +32,11 @@ returns c = answer-refused (graphIn (c .before .before .before .before .before .
 
 -- src/named.rt:223:9
 greatest-requires : tie.Need-greatest-requires
-greatest-requires c κs = (record { groups-at = c .before .before .before .before .before .before .before .before .before .before .pre .0 .groups-at; links = c .before .before .before .before .before .before .before .before .before .before .pre .0 .links; groups-are = c .before .before .before .before .before .before .before .before .before .before .pre .0 .groups }, c .before .before .before .before .hold-named .ensures .size-is)
+greatest-requires c κs = (record { groups-at = c .before .before .before .before .before .before .before .before .before .before .pre .0 .groups-at; links = c .before .before .before .before .before .before .before .before .before .before .pre .0 .links; groups = c .before .before .before .before .before .before .before .before .before .before .pre .0 .groups }, c .before .before .before .before .hold-named .ensures .size-is)
 
 -- src/named.rt:224:5
 keep-strongest-requires : tie.Need-keep-strongest-requires
-keep-strongest-requires c κs = (record { groups-at = c .before .before .before .before .before .before .before .before .before .before .before .before .pre .0 .groups-at; links = c .before .before .before .before .before .before .before .before .before .before .before .before .pre .0 .links; groups-are = c .before .before .before .before .before .before .before .before .before .before .before .before .pre .0 .groups }, c .before .before .before .before .before .before .hold-named .ensures .size-is)
+keep-strongest-requires c κs = (record { groups-at = c .before .before .before .before .before .before .before .before .before .before .before .before .pre .0 .groups-at; links = c .before .before .before .before .before .before .before .before .before .before .before .before .pre .0 .links; groups = c .before .before .before .before .before .before .before .before .before .before .before .before .pre .0 .groups }, c .before .before .before .before .before .before .hold-named .ensures .size-is)
 
 -- src/named.rt:225:5
 give-requires : tie.Need-give-requires
