@@ -6,15 +6,14 @@ use mathlib.Core.List.{List, _++_, map, append-assoc}
 use mathlib.Core.List.{List·Memᴰ as In}
 use Prim.Native.Nat.{ℕ, zero, suc, _+_, _*_, _-_, _≤_, _<_}
 use native.Mathlib.Omega.{arith}
-use lib.Dec.{eqb, leb, ltb}
+use lib.Dec.{ltb}
 use lib.ListN.{length, getD, length-map, drop, length-append}
 use lib.Seq.{ext-getD}
-use borrow.Author.Tests.{lt-ltb, le-ltb, leb-true}
-use Rattle.laws.proofs.Lists.{and-right}
+use borrow.Author.Tests.{lt-ltb, le-ltb}
 use Rattle.truss.specs.Lists.{range}
 use Rattle.truss.specs.Graph.{Pair, Graph, link, linkOf, graphOf}
 use Rattle.truss.specs.Refusal.{Checked, passed, refused, refuse, andThen, mapPassed}
-use Rattle.truss.specs.Record.{kindHead, kindStrongLink, bodyLength, holdsBody, byteAt, fieldAt, headBytes, endBytes, whole}
+use Rattle.truss.specs.Record.{kindHead, kindStrongLink, bodyLength, fieldAt, headBytes, endBytes, whole}
 use Rattle.truss.specs.LinksFile.{Head, readHead, pairBytes, writeLinks, lowerFirst, pairsOf, readBack}
 use Rattle.truss.specs.Index.{Index as IndexRows, encode, index, indexBytes}
 use Rattle.truss.specs.IndexFile.{IsIndexOf, readIndex}
@@ -27,6 +26,7 @@ use Rattle.laws.proofs.Reading.{write-read, read-index, refused-7, graph-again}
 use Rattle.laws.proofs.Numbers.{same-or-not}
 use Rattle.columns.specs.Columns.{cell, store}
 use Rattle.columns.specs.Laws.{stored, kept-entry, length-store}
+use Rattle.wire.specs.Wire.{whole-within}
 use Rattle.wire.specs.Writing.{Tells, written, written-start, upTo, upTo-rows, upTo-length}
 use Rattle.linksfile.specs.SortedLinks.{Row, row-named}
 use Rattle.linksfile.specs.Records.{keyOf}
@@ -52,8 +52,8 @@ pub record StrongFit (b : List ℕ) (m : ℕ) : Type 0 where
   pub each : (i : ℕ) → i < m → 13 + 8 * i ≤ length b
 
 pub whole-strong : (b : List ℕ) (at : ℕ) → whole b at kindStrongLink ≡ true → at + 8 ≤ length b
-unfolding bodyLength holdsBody
-whole-strong b at h = omega (arith, leb-true (at + 1 + 7) (length b) (and-right (eqb (byteAt b at) kindStrongLink) (leb (at + 1 + 7) (length b)) h))
+unfolding bodyLength
+whole-strong b at h = omega (arith, whole-within kindStrongLink b at refl h)
 
 pub strong-fit : {b : List ℕ} {n m : ℕ} → m ≤ 65535 → AllStrong b n m → StrongFit b m
 strong-fit {b} few A = record { few = few; each = λ i l. omega (arith, whole-strong b (5 + 8 * i) (A .each i l .is-whole)) }

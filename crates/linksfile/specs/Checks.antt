@@ -7,27 +7,27 @@ use Prim.Native.Nat.{ℕ, _+_, _*_, _≤_, _<_}
 use native.Mathlib.Omega.{arith}
 use lib.Dec.{eqb, ltb, leb}
 use lib.ListN.{length}
-use borrow.Author.Tests.{eq-eqb, ne-eqb, lt-ltb, le-ltb, le-leb, lt-leb, leb-true}
+use borrow.Author.Tests.{eq-eqb, ne-eqb, lt-ltb, le-ltb, le-leb, lt-leb}
 use Rattle.truss.specs.Limits.{maxAccounts, maxLinks}
 use Rattle.truss.specs.Graph.{link}
 use Rattle.truss.specs.Refusal.{Refusal, Checked, passed, refuse, refuseIf}
-use Rattle.truss.specs.Record.{kindHead, kindEnd, kindPlainLink, bodyLength, holdsBody, byteAt, fieldAt, whole}
+use Rattle.truss.specs.Record.{kindHead, kindEnd, kindPlainLink, bodyLength, fieldAt, whole}
 use Rattle.truss.specs.LinksFile.{readHead}
-use Rattle.laws.proofs.Lists.{and-right}
 use Rattle.laws.proofs.Numbers.{same-or-not}
 use Rattle.columns.specs.Columns.{cell, store}
 use Rattle.columns.specs.Laws.{stored, kept-entry, length-store}
+use Rattle.wire.specs.Wire.{whole-within}
 use Rattle.linksfile.specs.Records.{keyOf, placeOf, recordAt, endAt, Good, sound}
 use Rattle.linksfile.specs.Load.{Ended, fault, good, at-record, at-end, Scanned}
 
 -- a whole record lies within the bytes
 pub whole-head : (b : List ℕ) → whole b 0 kindHead ≡ true → 5 ≤ length b
-unfolding bodyLength holdsBody
-whole-head b h = omega (arith, leb-true 5 (length b) (and-right (eqb (byteAt b 0) kindHead) (leb 5 (length b)) h))
+unfolding bodyLength
+whole-head b h = whole-within kindHead b 0 refl h
 
 pub whole-link : (b : List ℕ) (at : ℕ) → whole b at kindPlainLink ≡ true → at + 5 ≤ length b
-unfolding bodyLength holdsBody
-whole-link b at h = omega (arith, leb-true (at + 1 + 4) (length b) (and-right (eqb (byteAt b at) kindPlainLink) (leb (at + 1 + 4) (length b)) h))
+unfolding bodyLength
+whole-link b at h = omega (arith, whole-within kindPlainLink b at refl h)
 
 module _ (b : List ℕ) where
   pub head-1 : whole b 0 kindHead ≡ false → refuse 1 0 ≡ readHead b
