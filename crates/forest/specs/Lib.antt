@@ -1,5 +1,6 @@
 -- The mathematics of the code's turns.
 pub mod Rows
+pub mod Gather
+pub mod Listed
 pub mod Visit
-pub mod Turns
 pub mod Level

@@ -155,7 +155,7 @@ module _ {G : Graph} {o : InOrder G} {fits : size G ≤ noGroup} {m n k j c : �
         at = between₁ .at;
         growth = growth-steady refl refl refl refl (D .steady) (between₁ .growth);
         light = between₁ .light;
-        next = λ y l. subst (Rattle.forest.specs.Turns.NextFor G k y) (sym (D .steady .frame .same 7 refl y l)) (between₁ .next y l);
+        next = λ y l. subst (Rattle.forest.specs.Visit.NextFor G k y) (sym (D .steady .frame .same 7 refl y l)) (between₁ .next y l);
       }
 
       -- the next weight is lower

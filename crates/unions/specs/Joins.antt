@@ -12,9 +12,9 @@ use Rattle.laws.proofs.Components.{Same}
 use Rattle.laws.proofs.Halving.{same-parent}
 use Rattle.laws.proofs.Kruskal.{spot}
 use Rattle.columns.specs.Columns.{cell, store}
-use Rattle.unions.specs.Space.{Frame, frame-none, frame-trans, frame-wide, joining, roots-joining, parents, parent-at, root, Steady, steady-trans}
+use Rattle.unions.specs.Space.{Frame, frame-none, frame-trans, frame-wide, roots, joining, roots-joining, parents, parent-at, root, Steady, steady-trans}
 use Rattle.unions.specs.Find.{FindPre, Found}
-use Rattle.unions.specs.State.{Given, Growth, growth-steady, growth-ring, growth-take, take-frame, take-room, join-ends, roots-same, labels}
+use Rattle.unions.specs.State.{Given, Growth, growth-steady, growth-ring, growth-take, take-frame, take-room, join-ends, roots-same, labels, Stays, stays-frame, take-stays}
 
 pub record JoinPre (G : Graph) (m n e f k j : ℕ) (w : List ℕ) : Type 0 where
   pub growth : Growth G m n (spot k e f) j w
@@ -27,6 +27,7 @@ JoinAsks m e f k j w = (G : Graph) × (n : ℕ) × JoinPre G m n e f k j w
 pub record JoinGives (m e f k j r : ℕ) (w w′ : List ℕ) : Type 0 where
   pub frame : Frame joining m w w′
   pub growth : (G : Graph) (n : ℕ) → JoinPre G m n e f k j w → Growth G m n (spot k e (suc f)) r w′
+  pub stays : (G : Graph) (n : ℕ) → JoinPre G m n e f k j w → Stays G m j r w w′
 
 pub record UnitePre (m a b e f k j : ℕ) (w : List ℕ) : Type 0 where
   pub a-in : a < m
@@ -89,20 +90,28 @@ module _ {G : Graph} {m n e f k j : ℕ} {w : List ℕ} (P : JoinPre G m n e f k
       pub join-taken : a ≢ b → Growth G m n (spot k e (suc f)) (j + 1) (united m a b e f k j w₂)
       join-taken ne = growth-take growth₂ a b (P .is-join) ea eb ne
 
+      pub join-taken-stays : a ≢ b → Stays G m j (j + 1) w₂ (united m a b e f k j w₂)
+      join-taken-stays ne = take-stays growth₂ a b (P .is-join) ea eb ne
+
       pub join-taken-frame : a ≢ b → Frame joining m w₂ (united m a b e f k j w₂)
       join-taken-frame ne = take-frame growth₂ a b (P .is-join) ea eb ne
 
-pub finds-frame : {m e f a b : ℕ} {w w₁ w₂ : List ℕ} → Found m e a w w₁ → Found m f b w₁ w₂ → Frame joining m w w₂
-finds-frame A B = frame-wide roots-joining (frame-trans (A .steady .frame) (B .steady .frame))
+finds-frame : {m e f a b : ℕ} {w w₁ w₂ : List ℕ} → Found m e a w w₁ → Found m f b w₁ w₂ → Frame roots m w w₂
+finds-frame A B = frame-trans (A .steady .frame) (B .steady .frame)
 
 pub join-early : {m e f k j : ℕ} {w : List ℕ} → cell w m 6 e ≡ cell w m 6 f → JoinGives m e f k j j w w
-join-early {m} {e} {f} {k} {j} {w} q = record { frame = frame-none joining m w; growth = λ G n P. join-settled P q }
+join-early {m} {e} {f} {k} {j} {w} q = record { frame = frame-none joining m w; growth = λ G n P. join-settled P q; stays = λ G n P a b s. s }
 
 pub join-late : {m e f k j a b : ℕ} {w w₁ w₂ : List ℕ} → Found m e a w w₁ → Found m f b w₁ w₂ → a ≡ b → JoinGives m e f k j j w w₂
-join-late A B q = record { frame = finds-frame A B; growth = λ G n P. join-ring P A B q }
+join-late A B q = record {
+  frame = frame-wide roots-joining (finds-frame A B);
+  growth = λ G n P. join-ring P A B q;
+  stays = λ G n P. stays-frame G refl refl (finds-frame A B) (P .growth .within);
+}
 
 pub join-done : {m e f k j a b : ℕ} {w w₁ w₂ w₃ : List ℕ} → JoinAsks m e f k j w → Found m e a w w₁ → Found m f b w₁ w₂ → a ≢ b → w₃ ≡ united m a b e f k j w₂ → JoinGives m e f k j (j + 1) w w₃
 join-done (G₀, n₀, P₀) A B ne put = rw put (record {
-  frame = frame-trans (finds-frame A B) (join-taken-frame P₀ A B ne);
+  frame = frame-trans (frame-wide roots-joining (finds-frame A B)) (join-taken-frame P₀ A B ne);
   growth = λ G n P. join-taken P A B ne;
+  stays = λ G n P a b s. join-taken-stays P A B ne a b (stays-frame G refl refl (finds-frame A B) (P .growth .within) a b s);
 })

@@ -35,9 +35,13 @@ joining c = eqb c 6 || (eqb c 9 || eqb c 10)
 abbrev pub nexting : Columns
 nexting c = eqb c 7
 
+-- triangles noted, and a next weight
+abbrev pub gathering : Columns
+gathering c = eqb c 3 || (eqb c 5 || nexting c)
+
 -- a level of the forest
 abbrev pub growing : Columns
-growing c = eqb c 7 || joining c
+growing c = gathering c || joining c
 
 -- the start
 abbrev pub preparing : Columns
@@ -70,10 +74,13 @@ pub roots-joining : (c : ℕ) → joining c ≡ false → roots c ≡ false
 roots-joining c h = or-left-false (eqb c 6) (eqb c 9 || eqb c 10) h
 
 pub joining-growing : (c : ℕ) → growing c ≡ false → joining c ≡ false
-joining-growing c h = or-right-false (eqb c 7) (joining c) h
+joining-growing c h = or-right-false (gathering c) (joining c) h
 
-pub nexting-growing : (c : ℕ) → growing c ≡ false → nexting c ≡ false
-nexting-growing c h = or-left-false (eqb c 7) (joining c) h
+pub gathering-growing : (c : ℕ) → growing c ≡ false → gathering c ≡ false
+gathering-growing c h = or-left-false (gathering c) (joining c) h
+
+pub nexting-gathering : (c : ℕ) → gathering c ≡ false → nexting c ≡ false
+nexting-gathering c h = or-right-false (eqb c 5) (nexting c) (or-right-false (eqb c 3) (eqb c 5 || nexting c) h)
 
 pub roots-grouping : (c : ℕ) → grouping c ≡ false → roots c ≡ false
 roots-grouping c h = or-left-false (eqb c 6) (eqb c 8 || (eqb c 11 || (eqb c 12 || (eqb c 13 || (eqb c 14 || eqb c 15))))) h

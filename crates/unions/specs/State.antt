@@ -14,7 +14,7 @@ use Rattle.truss.specs.Graph.{Graph, linkAt}
 use Rattle.truss.specs.Forest.{Join, allJoins, merge}
 use Rattle.laws.proofs.UnionFind.{Down, rootOf}
 use Rattle.laws.proofs.Members.{range-length, range-in}
-use Rattle.laws.proofs.Components.{label, Same, low, high}
+use Rattle.laws.proofs.Components.{label, Same, low, high, merge-keeps}
 use Rattle.laws.proofs.Unions.{Keeps, keeps-merge, store-down}
 use Rattle.laws.proofs.Halving.{root-fixed, root-below}
 use Rattle.laws.proofs.Groups.{size, strengthAt}
@@ -75,6 +75,9 @@ taken-same w w′ m j h = map-same (joinAt w′ m) (joinAt w m) (range 0 j) (λ 
     at : (i : ℕ) → i < j → joinAt w′ m i ≡ joinAt w m i
     at i l = let r = h i l in rw (r .0, r .1)
 
+pub taken-frame : {t : Columns} {m j : ℕ} {w w′ : List ℕ} → t 9 ≡ false → t 10 ≡ false → Frame t m w w′ → j ≤ m → taken w′ m j ≡ taken w m j
+taken-frame {t} {m} {j} {w} {w′} c d f l = taken-same w w′ m j (λ i k. (f .same 9 c i (omega (arith, k, l)), f .same 10 d i (omega (arith, k, l))))
+
 range-more : (a j : ℕ) → range a (suc j) ≡ range a j ++ ((a + j) ∷ [])
 unfolding range
 range-more a zero = let e : a ≡ a + 0 = omega arith in λ t. e t ∷ []
@@ -104,6 +107,13 @@ pub record Growth (G : Graph) (m n : ℕ) (p : Join) (j : ℕ) (w : List ℕ) : 
 abbrev pub labels : Graph → List ℕ → ℕ → ℕ → List ℕ
 labels G w m j = labelsOf G (taken w m j)
 
+-- links of one component stay so
+abbrev pub Stays : Graph → ℕ → ℕ → ℕ → List ℕ → List ℕ → Type 0
+Stays G m j r w w′ = (a b : ℕ) → Same (labels G w m j) a b → Same (labels G w′ m r) a b
+
+pub stays-frame : (G : Graph) {t : Columns} {m j : ℕ} {w w′ : List ℕ} → t 9 ≡ false → t 10 ≡ false → Frame t m w w′ → j ≤ m → Stays G m j j w w′
+stays-frame G c d f l a b s = subst (λ (z : List Join). Same (labelsOf G z) a b) (sym (taken-frame c d f l)) s
+
 pub growth-steady : {t : Columns} {G : Graph} {m n j : ℕ} {p : Join} {w w′ : List ℕ} → t 0 ≡ false → t 4 ≡ false → t 9 ≡ false → t 10 ≡ false → Steady t m w w′
     → Growth G m n p j w → Growth G m n p j w′
 growth-steady {t} {G} {m} {n} {j} {p} {w} {w′} a b c d s g = record {
@@ -115,7 +125,7 @@ growth-steady {t} {G} {m} {n} {j} {p} {w} {w′} a b c d s g = record {
 }
   where
     same : taken w′ m j ≡ taken w m j
-    same = taken-same w w′ m j (λ i l. (s .frame .same 9 c i (omega (arith, g .within)), s .frame .same 10 d i (omega (arith, g .within))))
+    same = taken-frame c d (s .frame) (g .within)
 
 module _ {G : Graph} {m n j : ℕ} {p : Join} {w : List ℕ} (g : Growth G m n p j w) where
   pub growth-skip : (q : Join) → q .weight ≤ p .weight → ((y : Join) → In y (allJoins G) → Left q y → Left p y)
@@ -303,6 +313,10 @@ module _ {G : Graph} {m n j : ℕ} {p : Join} {w : List ℕ} (g : Growth G m n p
       grown = subst (Grown G (next p)) (sym taken-new) (grown-take G (g .grown) (g .given .order) mem apart-ends);
       within = omega (arith, take-room);
     }
+
+    pub take-stays : Stays G m j (j + 1) w (store (store (store w m 6 (max a b) (min a b)) m 9 j (p .lower * 65536 + p .higher)) m 10 j (p .weight))
+    unfolding w₁ w₂ w₃
+    take-stays x y s = subst (λ (z : List ℕ). Same z x y) (sym labels-new) (merge-keeps (p .lower) (p .higher) (labels G w m j) x y s)
 
     pub take-frame : Frame joining m w (store (store (store w m 6 (max a b) (min a b)) m 9 j (p .lower * 65536 + p .higher)) m 10 j (p .weight))
     unfolding w₁ w₂ w₃

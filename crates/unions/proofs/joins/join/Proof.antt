@@ -1,7 +1,7 @@
 -- `unions::joins::join` meets its contract. Assumes nothing.
 use native.Mathlib.Omega.{arith}
 use mathlib.Core.Path.{_≡_, refl, _∙_, ap, sym}
-use Rattle.unions.specs.Joins.{join-in, join-find, join-find-next, join-unite, join-early, join-late, join-done, finds-frame}
+use Rattle.unions.specs.Joins.{join-in, join-find, join-find-next, join-unite, join-early, join-late, join-done}
 use borrow.Author.Needs.{needs}
 use Rattle.unions.proofs.joins.join.Statement.{statement}
 use Rattle.unions.proofs.joins.join.Tie as tie
