@@ -175,6 +175,15 @@ support-mono n S S′ e h =
     count-mono _ _ n (λ c l t.
     both (h (link (e .lo) c) (and-left (S (link (e .lo) c)) (S (link (e .hi) c)) t)) (h (link (e .hi) c) (and-right (S (link (e .lo) c)) (S (link (e .hi) c)) t)))
 
+-- where a set has both other sides of each triangle, it has as many
+pub support-sides : (n : ℕ) (S S′ : LinkSet) (e : Link)
+    → ((c : ℕ) → S (link (e .lo) c) ≡ true → S (link (e .hi) c) ≡ true → (S′ (link (e .lo) c) ≡ true) × (S′ (link (e .hi) c) ≡ true)) → support n S e ≤ support n S′ e
+unfolding support
+support-sides n S S′ e sides =
+    count-mono _ _ n (λ c l t.
+    let r = sides c (and-left (S (link (e .lo) c)) (S (link (e .hi) c)) t) (and-right (S (link (e .lo) c)) (S (link (e .hi) c)) t) in
+    both (r .0) (r .1))
+
 pub support-le : (n : ℕ) (S : LinkSet) (e : Link) → support n S e ≤ n
 unfolding support
 support-le n S e = count-le _ n

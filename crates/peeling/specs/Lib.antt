@@ -1,4 +1,5 @@
 -- What the functions of the peeling say, and why it is so.
+pub mod Bare
 pub mod Drain
 pub mod Seed
 pub mod Peel

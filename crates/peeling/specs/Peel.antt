@@ -1,23 +1,22 @@
 -- All levels: `level`, `peel_levels`, `peel`. Assumes nothing.
-use mathlib.Core.Path.{_≡_, refl, sym, ap, _∙_}
-use mathlib.Core.Logic.{_⊎_, inl, inr, _≢_}
-use mathlib.Core.Bool.{true, false}
+use mathlib.Core.Path.{_≡_, sym, _∙_}
+use mathlib.Core.Logic.{_≢_}
 use mathlib.Core.List.{List}
 use Prim.Native.Nat.{ℕ, _+_, _≤_, _<_}
 use native.Mathlib.Omega.{arith}
 use lib.ListN.{getD}
-use Rattle.truss.specs.Graph.{Link, LinkSet, Graph, member, support, linkAt}
+use Rattle.truss.specs.Graph.{Graph, support, linkAt}
 use Rattle.truss.specs.Strength.{strength}
-use Rattle.laws.proofs.Lists.{support-le, test}
-use Rattle.laws.proofs.Peeling.{truss-is}
+use Rattle.laws.proofs.Lists.{support-le}
 use Rattle.laws.proofs.Rounds.{truss-nested}
-use Rattle.laws.proofs.ProperLinks.{live, is-live, not-link}
+use Rattle.laws.proofs.ProperLinks.{live}
 use Rattle.columns.specs.Columns.{cell, SUPPORT, STRENGTH, QUEUE, FREE, noSupport}
 use Rattle.columns.specs.Wiping.{Wiping}
 use Rattle.adjacency.specs.State.{Named, Near, Marks, Kept, kept-none, kept-trans, kept-wiped, named-kept, near-kept, whole}
 use Rattle.adjacency.specs.Lists.{Zeroed}
 use Rattle.removal.specs.State.{All, None, Level, Ready}
 use Rattle.removal.specs.Level.{level-start}
+use Rattle.peeling.specs.Bare.{Bare, given, some, ready-bare}
 use Rattle.peeling.specs.Drain.{DrainPre, Drained}
 use Rattle.peeling.specs.Seed.{SeedPre, Seeding, level-seeded, Least}
 
@@ -56,7 +55,7 @@ module _ {G : Graph} {m n s at : ℕ} {d : ℕ → ℕ} {w start mark : List ℕ
   pub level-done : {tail r : ℕ} {d′ : ℕ → ℕ} {w₁ w₂ mark′ : List ℕ} → Seeding G m s All tail d w w₁ → Drained G m s r d′ w₁ w₂ mark′ → Drained G m s r d′ w w₂ mark′
   level-done p e = record { ready = e .ready; above = e .above; kept = kept-trans (p .kept) (e .kept); marks = e .marks; here = e .here }
 
--- ---- all levels, from the first count and no strength known
+-- ---- all levels, from the first count and the strengths of the links in no triangle
 
 pub record LevelsPre (G : Graph) (m n : ℕ) (w start mark : List ℕ) : Type 0 where
   pub named : Named G m n w
@@ -64,7 +63,8 @@ pub record LevelsPre (G : Graph) (m n : ℕ) (w start mark : List ℕ) : Type 0 
   pub marks : Marks G mark 0
   pub here : 0 < G .n
   pub triangles : (y : ℕ) → y < m → cell w m SUPPORT y ≡ support (G .n) (whole G) (linkAt G y)
-  pub unknown : (y : ℕ) → y < m → cell w m STRENGTH y ≡ 0
+  pub lone : (y : ℕ) → y < m → cell w m SUPPORT y ≡ 0 → cell w m STRENGTH y ≡ 2
+  pub shared : (y : ℕ) → y < m → cell w m SUPPORT y ≢ 0 → cell w m STRENGTH y ≡ 0
 
 pub record Peeling (G : Graph) (m s at : ℕ) (d : ℕ → ℕ) (w₀ w mark : List ℕ) : Type 0 where
   pub ready : Ready G m (s + 2) d w
@@ -98,42 +98,21 @@ raised {G} {m} {k} k′ l R = record {
   covers = λ e h. R .covers e (truss-nested G k k′ l e h);
 }
 
--- before the first level no link is removed
-abbrev pub nobody : ℕ → ℕ
-nobody y = 0
-
-ready-first : {G : Graph} {m n : ℕ} {w start mark : List ℕ} → LevelsPre G m n w start mark → Ready G m 2 nobody w
-ready-first {G} {m} {n} {w} P = record {
-  ended = λ y l z. refl;
-  finished = λ y l z. absurd (z (P .unknown y l));
-  gone = λ y l z. absurd (z refl);
-  known = λ y l z. absurd (z (P .unknown y l));
-  supports = λ y l z. P .triangles y l ∙ ap (λ (S : LinkSet). support (G .n) S (linkAt G y)) (sym same);
-  covers = λ e h. all-live e (truss-is G 2 .within e h);
-}
-  where
-    all-live : (e : Link) → member (G .links) e ≡ true → live G nobody e ≡ true
-    all-live e h = is-live G (P .named .proper) nobody e h refl
-
-    at : (e : Link) → (member (G .links) e ≡ true) ⊎ (member (G .links) e ≡ false) → live G nobody e ≡ member (G .links) e
-    at e (inl h) = all-live e h ∙ sym h
-    at e (inr h) = not-link G (P .named .proper) nobody e h ∙ sym h
-
-    same : live G nobody ≡ member (G .links)
-    same = λ i e. at e (test (member (G .links) e)) i
-
 module _ {G : Graph} {m n : ℕ} {w₀ start mark₀ : List ℕ} (P : LevelsPre G m n w₀ start mark₀) where
   pub levels-start : {s : ℕ} → Least m m s w₀ → (d : ℕ → ℕ) × Peeling G m s 0 d w₀ w₀ mark₀
   levels-start {s} L = (
-    nobody,
+    given m w₀,
     record {
-      ready = raised (s + 2) (omega arith) (ready-first P);
+      ready = raised (s + 2) (omega (arith, up)) (ready-bare (P .named) (P .triangles) (P .lone) (P .shared));
       least = L .low;
       kept = kept-none m FREE w₀;
       marks = P .marks;
       here = P .here;
     },
   )
+    where
+      up : 1 ≤ s
+      up = L .greatest 1 (omega arith) (some (P .named) (P .triangles) (P .lone) (P .shared))
 
   module _ {s at : ℕ} {d : ℕ → ℕ} {w mark : List ℕ} (D : Peeling G m s at d w₀ w mark) where
     pub levels-level : s < noSupport → LevelPre G m n s at d w start mark
@@ -191,18 +170,16 @@ abbrev pub PeelGives : ℕ → ℕ → List ℕ → List ℕ → List ℕ → Li
 PeelGives m n w w′ start mark mark′ = (G : Graph) → PeelPre G m n w start mark → PeelDone G m n w w′ mark′
 
 module _ {G : Graph} {m n : ℕ} {w start mark : List ℕ} (P : PeelPre G m n w start mark) where
-  module _ {w₁ : List ℕ} (W : Wiping m STRENGTH m w w₁) where
-    wiped : Kept m FREE w w₁
-    wiped = kept-wiped W (omega arith) (omega arith)
-
+  module _ {w₁ : List ℕ} (B : Bare m m w w₁) where
     pub peel-levels : LevelsPre G m n w₁ start mark
     peel-levels = record {
-      named = named-kept (P .named) wiped;
-      near = near-kept (P .near) wiped;
+      named = named-kept (P .named) (B .kept);
+      near = near-kept (P .near) (B .kept);
       marks = P .marks;
       here = P .here;
-      triangles = λ y l. W .others SUPPORT y (omega arith) l ∙ P .triangles y l;
-      unknown = W .zero;
+      triangles = λ y l. B .supports y l ∙ P .triangles y l;
+      lone = B .lone;
+      shared = B .shared;
     }
 
     pub peel-done : {w₂ w₃ mark₁ mark₂ : List ℕ} → Peeled G m w₁ w₂ → Wiping m QUEUE m w₂ w₃ → Zeroed n mark₁ mark₂ → PeelDone G m n w w₃ mark₂
@@ -210,6 +187,6 @@ module _ {G : Graph} {m n : ℕ} {w start mark : List ℕ} (P : PeelPre G m n w 
       strengths = λ y l. U .others STRENGTH y (omega arith) l ∙ R .strengths y l;
       supports = λ y l. U .others SUPPORT y (omega arith) l ∙ R .supports y l;
       queue = U .zero;
-      kept = kept-trans wiped (kept-trans (R .kept) (kept-wiped U (omega arith) (omega arith)));
+      kept = kept-trans (B .kept) (kept-trans (R .kept) (kept-wiped U (omega arith) (omega arith)));
       blank = Z .is;
     }

@@ -2,10 +2,11 @@
 ghost use mathlib.Core.Path.{_≡_};
 ghost use Prim.Native.Nat.{_+_, _*_, _<_, _≤_};
 ghost use lib.ListN.{length};
+ghost use Rattle.peeling.specs.Bare.{Bared, Bare};
 ghost use Rattle.peeling.specs.Drain.{DrainAsks, DrainGives};
 ghost use Rattle.peeling.specs.Seed.{Least, LeastStep};
 ghost use Rattle.peeling.specs.Peel.{LevelAsks, LevelGives, LevelsAsk, LevelsGive, PeelAsks, PeelGives};
-ghost use Rattle.columns.specs.Columns.{COLUMNS};
+ghost use Rattle.columns.specs.Columns.{COLUMNS, mostLinks};
 use crate::seed::seed;
 use adjacency::lists::zero;
 use columns::NO_SUPPORT;
@@ -13,6 +14,7 @@ use columns::QUEUE;
 use columns::STRENGTH;
 use columns::SUPPORT;
 use columns::get;
+use columns::put;
 use columns::wipe;
 use removal::centre::turn_to;
 use removal::remove::remove;
@@ -90,6 +92,32 @@ fn level(
     drain(w, m, n, start, mark, s, at, tail)
 }
 
+// Link e has strength 2 if it is in no triangle; else its strength is not known yet.
+fn bare_one(w: &mut [u32], m: usize, e: usize)
+    requires { ⌜ length (now w) ≡ COLUMNS * m ⌝ }
+    requires { ⌜ e < m ⌝ }
+    ensures { λ _. ⌜ Bared m e (now (w .entry)) (now (w .exit)) ⌝ }
+{
+    if get(w, m, SUPPORT, e) == 0 {
+        put(w, m, STRENGTH, e, 2);
+        return;
+    }
+    put(w, m, STRENGTH, e, 0);
+}
+
+// The strength of the links in no triangle; there is no level for them.
+fn bare(w: &mut [u32], m: usize)
+    requires { ⌜ length (now w) ≡ COLUMNS * m ⌝ }
+    requires { ⌜ m ≤ mostLinks ⌝ }
+    ensures { λ _. ⌜ Bare m m (now (w .entry)) (now (w .exit)) ⌝ }
+{
+    let mut e: usize = 0;
+    while e < m {
+        bare_one(w, m, e);
+        e += 1;
+    }
+}
+
 // All levels, from the least support up.
 fn peel_levels(w: &mut [u32], m: usize, n: usize, start: &[u32], mark: &mut [u32])
     requires { ⌜ LevelsAsk m n (now w) (now start) (now mark) ⌝ }
@@ -108,7 +136,7 @@ pub fn peel(w: &mut [u32], m: usize, n: usize, start: &[u32], mark: &mut [u32])
     requires { ⌜ PeelAsks m n (now w) (now start) (now mark) ⌝ }
     ensures { λ _. ⌜ PeelGives m n (now (w .entry)) (now (w .exit)) (now (start .entry)) (now (mark .entry)) (now (mark .exit)) ⌝ }
 {
-    wipe(w, m, STRENGTH);
+    bare(w, m);
     peel_levels(w, m, n, start, mark);
     wipe(w, m, QUEUE);
     zero(mark, n);

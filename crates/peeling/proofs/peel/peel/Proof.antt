@@ -4,14 +4,14 @@ use borrow.Author.Needs.{needs}
 use Rattle.peeling.proofs.peel.peel.Statement.{statement}
 use Rattle.peeling.proofs.peel.peel.Tie as tie
 
-wipe-requires : tie.Need-wipe-requires
-wipe-requires c κs = search needs
+bare-requires : tie.Need-bare-requires
+bare-requires c κs = search needs
 
 peel-levels-requires : tie.Need-peel-levels-requires
-peel-levels-requires c κs = (c .before .before .before .before .before .before .before .before .before .pre .0, peel-levels (c .before .before .before .before .before .before .before .before .before .pre .1) (c .before .before .before .before .wipe .ensures))
+peel-levels-requires c κs = (c .before .before .before .before .before .before .before .before .before .pre .0, peel-levels (c .before .before .before .before .before .before .before .before .before .pre .1) (c .before .before .before .before .bare .ensures))
 
-wipe-requires-2 : tie.Need-wipe-requires-2
-wipe-requires-2 c κs = search needs
+wipe-requires : tie.Need-wipe-requires
+wipe-requires c κs = search needs
 
 zero-requires : tie.Need-zero-requires
 zero-requires c κs = search needs
@@ -23,15 +23,15 @@ same-length-2 : tie.Need-same-length-2
 same-length-2 c = search needs
 
 returns : tie.Need-returns
-returns c = λ G P. peel-done P (c .before .before .before .before .before .before .before .before .before .before .before .before .before .before .before .before .before .wipe .ensures) (c .before .before .before .before .before .before .before .before .before .before .before .before .peel-levels .ensures G (peel-levels P (c .before .before .before .before .before .before .before .before .before .before .before .before .before .before .before .before .before .wipe .ensures))) (c .before .before .before .before .before .before .wipe2 .ensures) (c .before .before .zero .ensures)
+returns c = λ G P. peel-done P (c .before .before .before .before .before .before .before .before .before .before .before .before .before .before .before .before .before .bare .ensures) (c .before .before .before .before .before .before .before .before .before .before .before .before .peel-levels .ensures G (peel-levels P (c .before .before .before .before .before .before .before .before .before .before .before .before .before .before .before .before .before .bare .ensures))) (c .before .before .before .before .before .before .wipe .ensures) (c .before .before .zero .ensures)
 
 pub peel-spec : {M : Type 1} → statement M
 peel-spec =
     tie.close
     (tie.spec
-    wipe-requires
+    bare-requires
     peel-levels-requires
-    wipe-requires-2
+    wipe-requires
     zero-requires
     same-length
     same-length-2
