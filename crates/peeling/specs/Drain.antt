@@ -1,17 +1,22 @@
--- All links that wait are removed: `drain`. Assumes nothing.
-use mathlib.Core.Path.{_≡_, sym}
+-- All links that wait are removed: `drain`, `settle`. Assumes nothing.
+use mathlib.Core.Path.{_≡_, sym, _∙_}
+use mathlib.Core.Logic.{_≢_}
 use mathlib.Core.List.{List}
 use Prim.Native.Nat.{ℕ, suc, _+_, _*_, _-_, _≤_, _<_}
 use native.Mathlib.Omega.{arith}
 use lib.ListN.{length}
-use Rattle.truss.specs.Graph.{Graph}
+use Rattle.truss.specs.Graph.{Graph, linkAt}
+use Rattle.laws.proofs.Lists.{support-le}
+use Rattle.laws.proofs.ProperLinks.{live}
 use Rattle.columns.specs.Columns.{cell, SUPPORT, STRENGTH, QUEUE, FREE, COLUMNS, noSupport}
+use Rattle.columns.specs.Wiping.{Wiping}
 use Rattle.removal.specs.Queue.{put, queue-few}
-use Rattle.adjacency.specs.State.{Named, Near, Marks, Kept, named-kept, near-kept, kept-trans, kept-none}
+use Rattle.adjacency.specs.State.{Named, Near, Marks, Kept, named-kept, near-kept, kept-trans, kept-none, kept-wiped}
 use Rattle.removal.specs.State.{All, Level, Ready}
-use Rattle.removal.specs.Level.{level-end, end-above}
+use Rattle.removal.specs.Level.{level-end, end-above, everyone, level-last}
 use Rattle.removal.specs.Centre.{TurnPre, Turned}
 use Rattle.removal.specs.Remove.{RemovePre, Removed}
+use Rattle.peeling.specs.Seed.{Least}
 
 pub record DrainPre (G : Graph) (m n s at tail : ℕ) (d : ℕ → ℕ) (w start mark : List ℕ) : Type 0 where
   pub named : Named G m n w
@@ -89,3 +94,21 @@ module _ {G : Graph} {m n s at₀ tail₀ : ℕ} {d₀ : ℕ → ℕ} {w₀ star
     drain-end l =
         let q : head ≡ tail = omega (arith, D .level .queue .order) in
         record { ready = level-end N d (D .level) q; above = end-above N d (D .level) q; kept = D .kept; marks = D .marks; here = D .here }
+
+  -- ---- no link is left that is in no queue
+
+  drain-all : {r : ℕ} → Least m m r w₀ → r ≡ noSupport → (y : ℕ) → y < m → cell w₀ m STRENGTH y ≢ 0
+  drain-all h q y l z =
+      omega (arith, h .low y l z, P .level .supports y l (P .level .queue .ended y l z), support-le (G .n) (live G d₀) (linkAt G y), P .named .accounts, P .named .small)
+
+  pub drain-last : {r : ℕ} {w : List ℕ} → Least m m r w₀ → r ≡ noSupport → Wiping m SUPPORT m w₀ w → (d : ℕ → ℕ) × Drained G m s at₀ d w₀ w mark₀
+  drain-last h q W = (
+    everyone,
+    record {
+      ready = level-last (P .named) d₀ (P .level) (drain-all h q) W;
+      above = λ y l z. absurd (drain-all h q y l (sym (W .others STRENGTH y (omega arith) l) ∙ z));
+      kept = kept-wiped W (omega arith) (omega arith);
+      marks = P .marks;
+      here = P .here;
+    },
+  )

@@ -19,32 +19,6 @@ use columns::wipe;
 use removal::centre::turn_to;
 use removal::remove::remove;
 
-// Removes all links that wait, and those that fall to s. Gives the account that the marks are at.
-fn drain(
-    w: &mut [u32],
-    m: usize,
-    n: usize,
-    start: &[u32],
-    mark: &mut [u32],
-    s: usize,
-    from: usize,
-    until: usize,
-) -> usize
-    requires { ⌜ DrainAsks m n s from until (now w) (now start) (now mark) ⌝ }
-    ensures { λ r. ⌜ DrainGives m n s from until r (now (w .entry)) (now (w .exit)) (now (start .entry)) (now (mark .entry)) (now (mark .exit)) ⌝ }
-{
-    let mut head: usize = 0;
-    let mut tail = until;
-    let mut at = from;
-    while head < tail {
-        let e = get(w, m, QUEUE, head);
-        at = turn_to(w, m, n, start, mark, e, at);
-        tail = remove(w, m, n, start, mark, e, at, s, tail);
-        head += 1;
-    }
-    at
-}
-
 // The lesser of `best` and the support of link e, if it is in no queue.
 fn least_one(w: &[u32], m: usize, e: usize, best: usize) -> usize
     requires { ⌜ length (now w) ≡ COLUMNS * m ⌝ }
@@ -75,6 +49,53 @@ fn least(w: &[u32], m: usize) -> usize
     best
 }
 
+// Removes all links that wait, and those that fall to s. Gives the account that the marks are at.
+fn drain(
+    w: &mut [u32],
+    m: usize,
+    n: usize,
+    start: &[u32],
+    mark: &mut [u32],
+    s: usize,
+    from: usize,
+    until: usize,
+) -> usize
+    requires { ⌜ DrainAsks m n s from until (now w) (now start) (now mark) ⌝ }
+    ensures { λ r. ⌜ DrainGives m n s from until r (now (w .entry)) (now (w .exit)) (now (start .entry)) (now (mark .entry)) (now (mark .exit)) ⌝ }
+{
+    let mut head: usize = 0;
+    let mut tail = until;
+    let mut at = from;
+    while head < tail {
+        let e = get(w, m, QUEUE, head);
+        at = turn_to(w, m, n, start, mark, e, at);
+        tail = remove(w, m, n, start, mark, e, at, s, tail);
+        head += 1;
+    }
+    at
+}
+
+// Removes all links that wait, and those that fall to s. Where no link is left that is in no queue, there is no support to be kept.
+fn settle(
+    w: &mut [u32],
+    m: usize,
+    n: usize,
+    start: &[u32],
+    mark: &mut [u32],
+    s: usize,
+    at: usize,
+    tail: usize,
+) -> usize
+    requires { ⌜ DrainAsks m n s at tail (now w) (now start) (now mark) ⌝ }
+    ensures { λ r. ⌜ DrainGives m n s at tail r (now (w .entry)) (now (w .exit)) (now (start .entry)) (now (mark .entry)) (now (mark .exit)) ⌝ }
+{
+    if least(w, m) == NO_SUPPORT {
+        wipe(w, m, SUPPORT);
+        return at;
+    }
+    drain(w, m, n, start, mark, s, at, tail)
+}
+
 // Removes the links of the least support s there is, and those that fall to it.
 fn level(
     w: &mut [u32],
@@ -89,7 +110,7 @@ fn level(
     ensures { λ r. ⌜ LevelGives m n s at r (now (w .entry)) (now (w .exit)) (now (start .entry)) (now (mark .entry)) (now (mark .exit)) ⌝ }
 {
     let tail = seed(w, m, n, start, s);
-    drain(w, m, n, start, mark, s, at, tail)
+    settle(w, m, n, start, mark, s, at, tail)
 }
 
 // Link e has strength 2 if it is in no triangle; else its strength is not known yet.

@@ -1,4 +1,4 @@
--- One level of the peeling, over the whole graph: its start, the removal of one link, its end. Assumes nothing.
+-- One level of the peeling, over the whole graph: its start, its end, the end of all levels, the removal of one link. Assumes nothing.
 use mathlib.Core.Path.{_≡_, refl, sym, ap, _∙_}
 use mathlib.Core.Logic.{_⊎_, inl, inr, _≢_}
 use mathlib.Core.Bool.{Bool, true, false}
@@ -7,14 +7,15 @@ use Prim.Native.Nat.{ℕ, suc, _+_, _≤_, _<_}
 use native.Mathlib.Nat.{not-suc-le-zero}
 use native.Mathlib.Omega.{arith}
 use lib.ListN.{length}
-use Rattle.truss.specs.Graph.{Link, Graph, link, member, support, linkNumber, linkAt}
+use Rattle.truss.specs.Graph.{Link, Graph, member, support, linkNumber, linkAt}
 use Rattle.truss.specs.Strength.{truss, strength}
-use Rattle.laws.proofs.Lists.{true-not-false}
+use Rattle.laws.proofs.Lists.{test, true-not-false}
 use Rattle.laws.proofs.Members.{number-lt, link-of-number}
 use Rattle.laws.proofs.Rounds.{Covers, outside, done, truss-nested, strength-between}
 use Rattle.columns.specs.Columns.{cell, SUPPORT, STRENGTH, QUEUE}
 use Rattle.laws.proofs.Numbers.{same-or-not}
 use Rattle.columns.specs.Laws.{Upd, Same}
+use Rattle.columns.specs.Wiping.{Wiping}
 use Rattle.laws.proofs.ProperLinks.{live, live-member, live-flag, live-at, dead-at}
 use Rattle.removal.specs.Queue.{Fate, stays, goes, went, put, upd-put, queue-done}
 use Rattle.adjacency.specs.State.{Named}
@@ -22,6 +23,10 @@ use Rattle.removal.specs.State.{Level, Ready, All, None, Waiting, Suppor
 
 inside : {G : Graph} {m n : ℕ} {w : List ℕ} → Named G m n w → (y : ℕ) → y < m → y < length (G .links)
 inside N y l = omega (arith, N .count)
+
+-- all links are removed
+abbrev pub everyone : ℕ → ℕ
+everyone y = 1
 
 module _ {G : Graph} {m n : ℕ} {w : List ℕ} (N : Named G m n w) (d : ℕ → ℕ) where
   -- a link of the set by its number
@@ -113,6 +118,38 @@ module _ {G : Graph} {m n : ℕ} {w : List ℕ} (N : Named G m n w) (d : ℕ →
         go y l t (goes a b) =
             strength-between G (s + 2) (linkAt G y) a (sym (end-exact (linkAt G y)) ∙ dead-at G (N .proper) d y (inside N y l) (out y l t)) ∙ sym b
         go y l t (went a b) = a
+
+  -- ---- the end of all levels: every link is in the queue, so none is in the next truss, and no triangle has to be taken off
+
+  module _ {s head tail : ℕ} (L : Level G m s All head tail d w) (all : (y : ℕ) → y < m → cell w m STRENGTH y ≢ 0) where
+    next-empty : (e : Link) → member (truss G (suc (s + 2))) e ≡ false
+    next-empty e = go (test (member (truss G (suc (s + 2))) e))
+      where
+        go : (member (truss G (suc (s + 2))) e ≡ true) ⊎ (member (truss G (suc (s + 2))) e ≡ false) → member (truss G (suc (s + 2))) e ≡ false
+        go (inr h) = h
+        go (inl h) =
+            let r = flagged e (L .covers e h) in
+            let y = linkNumber G e in
+            let x : cell w m SUPPORT y ≡ support (G .n) (live G d) e = L .supports y (r .0) (r .1) ∙ ap (support (G .n) (live G d)) (r .2) in
+            outside G (suc (s + 2)) (live G d) (L .covers) e (omega (arith, x, L .queue .low y (r .0) (all y (r .0)) (r .1)))
+
+    pub level-last : {w′ : List ℕ} → Wiping m SUPPORT m w w′ → Ready G m (suc (s + 2)) everyone w′
+    level-last {w′} W = record {
+      ended = λ y l z. absurd (all y l (sym (same y l) ∙ z));
+      finished = λ y l t z. absurd (omega arith);
+      gone = λ y l t. W .zero y l;
+      known = λ y l t. go y l (L .queue .fate y l) ∙ sym (same y l);
+      supports = λ y l z. absurd (omega arith);
+      covers = λ e h. absurd (true-not-false h (next-empty e));
+    }
+      where
+        same : (y : ℕ) → y < m → cell w′ m STRENGTH y ≡ cell w m STRENGTH y
+        same y l = W .others STRENGTH y (omega arith) l
+
+        go : (y : ℕ) → y < m → Fate G s (linkAt G y) (cell w m STRENGTH y) → strength G (linkAt G y) ≡ cell w m STRENGTH y
+        go y l (stays a b) = absurd (all y l b)
+        go y l (goes a b) = strength-between G (s + 2) (linkAt G y) a (next-empty (linkAt G y)) ∙ sym b
+        go y l (went a b) = a
 
 -- ---- one link goes: e is the first in the queue, w₁ is the work space after the walk, w₂ has no support for e any more
 
