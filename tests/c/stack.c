@@ -1,26 +1,34 @@
-/* Measures the stack that a call needs: runs it in a thread whose stack is painted, and looks how deep the paint is gone. Compared with FE_STACK_MAX. */
-#define _XOPEN_SOURCE 700
-#include "footballelm.h"
+/* Measures the stack that a call needs, and runs the calls with just that much. Each call is made on a stack of its own below which nothing can be touched.
+ *
+ * Measured: the stack is painted, and after the call the deepest byte that is no longer paint is looked for. Then, each in a process of its own: the call is done
+ * with FE_STACK_MAX bytes and with the bytes measured; with just less, and with half, it ends by a fault. The stack is counted from the caller's frame.
+ * The last line is 'N passed, M failed'. */
+#define _GNU_SOURCE
+#include "calls.h"
 
-#include <pthread.h>
+#include <signal.h>
 #include <stdio.h>
 #include <stdlib.h>
 #include <string.h>
+#include <sys/mman.h>
+#include <sys/wait.h>
+#include <ucontext.h>
+#include <unistd.h>
 
-enum { PAINT = 0xA5, STACK = 1 << 20, NAMED = 16 };
-
-enum call { NONE, BUILD, READ, A, B, C, D, E, F, CALLS };
-
-static const char *const NAME[CALLS] = {
-    "no call", "fe_build", "fe_read", "fe_strength", "fe_joined", "fe_groups_at", "fe_strongest_groups", "fe_all_groups", "fe_group_links",
-};
+enum { PAINT = 0xA5, PAGE = 4096, STACK = 1 << 20, NAMED = 16, ALIGNED = 16 };
 
 static uint8_t links[FE_LINKS_MAX], index_bytes[FE_INDEX_MAX], back[FE_LINKS_MAX], accounts[2 * NAMED], answer[FE_ANSWER_MAX], desk[FE_DESK];
-static size_t links_len, room = sizeof index_bytes, length;
+static size_t links_len, length;
 static uint32_t last;
+static char *stack; /* its lowest byte; right below it lies a guard page */
+static ucontext_t home, there;
+
+/* The call to be made, what it gave, and where its caller's frame was. */
+static struct asked asked;
 static fe_reply reply;
-static char *stack;
 static uintptr_t entry;
+
+/* ---- cards ---- */
 
 static uint8_t *put(uint8_t *at, uint32_t a, uint32_t b) {
     *at++ = 6, *at++ = (uint8_t)(a >> 8), *at++ = (uint8_t)a, *at++ = (uint8_t)(b >> 8), *at++ = (uint8_t)b;
@@ -44,65 +52,110 @@ static void draw(uint32_t first, int nest) {
     for (uint8_t a = 0; a < NAMED; a++) accounts[2 * a + 1] = a;
 }
 
-static void *run(void *given) {
-    char here;
-    entry = (uintptr_t)&here;
-    switch (*(enum call *)given) {
-    case BUILD: reply = fe_build(links, links_len, index_bytes, room); break;
-    case READ: reply = fe_read(index_bytes, length, back, sizeof back); break;
-    case A: reply = fe_strength(index_bytes, length, 1, last, desk, sizeof desk); break;
-    case B: reply = fe_joined(index_bytes, length, 0, 1, 1, last, desk, sizeof desk); break;
-    case C: reply = fe_groups_at(index_bytes, length, accounts, sizeof accounts, 3, answer, sizeof answer, desk, sizeof desk); break;
-    case D: reply = fe_strongest_groups(index_bytes, length, accounts, sizeof accounts, answer, sizeof answer, desk, sizeof desk); break;
-    case E: reply = fe_all_groups(index_bytes, length, accounts, sizeof accounts, answer, sizeof answer, desk, sizeof desk); break;
-    case F: reply = fe_group_links(index_bytes, length, 0, 1, 3, answer, sizeof answer, desk, sizeof desk); break;
-    default: break;
-    }
-    return NULL;
+/* The call on this card that goes deepest. */
+static void prepare(enum call call, size_t room) {
+    asked = (struct asked){.call = call, .k = 3, .number = {0, 1, 1, last}, .read = {index_bytes, length}, .accounts = {accounts, sizeof accounts},
+                           .buffer = {answer, sizeof answer}, .desk = {desk, sizeof desk}};
+    if (call == STRENGTH) asked.number[0] = 1, asked.number[1] = last;
+    if (call == READ) asked.buffer = (struct slice){back, sizeof back};
+    if (call == BUILD) asked.read = (struct slice){links, links_len}, asked.buffer = (struct slice){index_bytes, room};
 }
 
-/* Bytes of the stack below the thread's own frame that are no longer paint. */
-static long deep(enum call call) {
-    pthread_attr_t attr;
-    pthread_t thread;
+/* ---- a stack of its own ---- */
+
+static void run(void) {
+    char here;
+    entry = (uintptr_t)&here;
+    if (asked.call < CALLS) reply = make_call(&asked);
+}
+
+/* Makes the call on the lowest `size` bytes of the stack. */
+static void on_stack(size_t size) {
+    if (getcontext(&there)) exit(2);
+    there.uc_stack.ss_sp = stack, there.uc_stack.ss_size = size, there.uc_link = &home;
+    makecontext(&there, run, 0);
+    if (swapcontext(&home, &there)) exit(2);
+}
+
+/* Bytes of the stack below the caller's frame that are no longer paint. */
+static long deep(void) {
     memset(stack, PAINT, STACK);
-    if (pthread_attr_init(&attr) || pthread_attr_setstack(&attr, stack, STACK)) return -1;
-    if (pthread_create(&thread, &attr, run, &call) || pthread_join(thread, NULL)) return -1;
-    pthread_attr_destroy(&attr);
+    on_stack(STACK);
     char *low = stack;
     while ((uintptr_t)low < entry && *low == (char)PAINT) low++;
     return (long)(entry - (uintptr_t)low);
 }
 
-static int failed;
-
-static void check(const char *name, int holds) {
-    if (!holds) {
-        failed = 1;
-        printf("FAILED stack: %s\n", name);
+/* How the call ends with so many bytes below its caller's frame, to within the stack's alignment: at least so many, or at most. 0 if done with the same reply, else
+ * the signal, or -1. */
+static int ends_with(long bytes, int at_least) {
+    fe_reply wanted = reply;
+    long above = (long)((uintptr_t)stack + STACK - entry), size = bytes + above;
+    size += at_least ? (ALIGNED - size % ALIGNED) % ALIGNED : -(size % ALIGNED);
+    int status;
+    fflush(stdout);
+    pid_t child = fork();
+    if (child < 0) return -1;
+    if (child == 0) {
+        on_stack((size_t)size);
+        long room = (long)(entry - (uintptr_t)stack);
+        int fits = at_least ? room >= bytes && room < bytes + ALIGNED : room <= bytes && room > bytes - ALIGNED;
+        _exit(fits && memcmp(&reply, &wanted, sizeof reply) == 0 ? 0 : 1);
     }
+    if (waitpid(child, &status, 0) != child) return -1;
+    return WIFSIGNALED(status) ? WTERMSIG(status) : WEXITSTATUS(status) ? -1 : 0;
+}
+
+/* ---- checks ---- */
+
+static int passed, failed;
+
+static void check(const char *name, const char *what, int holds) {
+    if (holds) {
+        passed++;
+    } else {
+        failed++;
+        printf("FAILED stack: %s: %s\n", name, what);
+    }
+}
+
+/* Measures a call and makes it with more, just as much, and less. */
+static long all_of(const char *name, long none, uint32_t refusal) {
+    long took = deep();
+    check(name, "reply", reply.refusal == refusal);
+    check(name, "more than no call and at most FE_STACK_MAX", took > none && took <= FE_STACK_MAX);
+    check(name, "done with FE_STACK_MAX", ends_with(FE_STACK_MAX, 1) == 0);
+    check(name, "done with what was measured", ends_with(took, 1) == 0);
+    check(name, "a fault with just less", ends_with(took - 1, 0) == SIGSEGV);
+    check(name, "a fault with half", ends_with(took / 2, 1) == SIGSEGV);
+    return took;
+}
+
+static char *stack_between_guards(void) {
+    char *whole = mmap(NULL, STACK + 2 * PAGE, PROT_NONE, MAP_PRIVATE | MAP_ANONYMOUS, -1, 0);
+    if (whole == MAP_FAILED || mprotect(whole + PAGE, STACK, PROT_READ | PROT_WRITE)) exit(2);
+    return whole + PAGE;
 }
 
 int main(void) {
     long most[CALLS] = {0};
-    stack = aligned_alloc(1 << 16, STACK);
-    if (!stack) return 2;
-    long none = deep(NONE);
-    check(NAME[NONE], none >= 0);
+    stack = stack_between_guards();
+    asked.call = CALLS; /* no call */
+    long none = deep();
+    check("no call", "some bytes", none >= 0);
     for (int nest = 0; nest <= 1; nest++) {
         draw(nest ? 46 : 64, nest);
         for (enum call call = BUILD; call < CALLS; call++) {
-            long took = deep(call);
-            check(NAME[call], took > none && took <= FE_STACK_MAX && reply.refusal == 0);
+            prepare(call, sizeof index_bytes);
+            long took = all_of(name_of(call), none, 0);
             if (call == BUILD) length = reply.value;
             if (took > most[call]) most[call] = took;
         }
     }
-    room = 0;
-    long refused = deep(BUILD);
-    check("fe_build refused", refused >= 0 && refused <= FE_STACK_MAX && reply.refusal == 12);
-    printf("stack: FE_STACK_MAX is %d; taken: %ld by fe_build refused", FE_STACK_MAX, refused);
-    for (enum call call = BUILD; call < CALLS; call++) printf(", %ld by %s", most[call], NAME[call]);
-    printf("\n%d passed, %d failed\n", !failed, failed);
-    return failed;
+    prepare(BUILD, 0);
+    long refused = all_of("fe_build refused", none, 12);
+    printf("stack: FE_STACK_MAX is %d; taken: %ld by no call, %ld by fe_build refused", FE_STACK_MAX, none, refused);
+    for (enum call call = BUILD; call < CALLS; call++) printf(", %ld by %s", most[call], name_of(call));
+    printf("\n%d passed, %d failed\n", passed, failed);
+    return failed != 0;
 }

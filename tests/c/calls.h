@@ -1,0 +1,62 @@
+/* The eight calls in one form, so that a test can go through them all and can put a faulty one in a call's place. */
+#ifndef CALLS_H
+#define CALLS_H
+
+#include "footballelm.h"
+
+enum call { BUILD, READ, STRENGTH, JOINED, GROUPS_AT, STRONGEST, ALL_GROUPS, GROUP_LINKS, CALLS };
+
+struct slice {
+    uint8_t *at;
+    size_t length;
+};
+
+/* A call with its numbers and all that it is lent. Not every call has all of it. */
+struct asked {
+    enum call call;
+    uint32_t number[4], k;
+    struct slice read, accounts, buffer, desk; /* a buffer is an index, a links file or an answer */
+};
+
+/* The library, or the library with a fault. */
+typedef fe_reply library(const struct asked *asked);
+
+static inline const char *name_of(enum call call) {
+    static const char *const NAME[CALLS] = {
+        "fe_build", "fe_read", "fe_strength", "fe_joined", "fe_groups_at", "fe_strongest_groups", "fe_all_groups", "fe_group_links",
+    };
+    return NAME[call];
+}
+
+static inline int is_question(enum call call) {
+    return call > READ;
+}
+
+static inline int has_accounts(enum call call) {
+    return call == GROUPS_AT || call == STRONGEST || call == ALL_GROUPS;
+}
+
+static inline int has_level(enum call call) {
+    return call == GROUPS_AT || call == GROUP_LINKS;
+}
+
+static inline int has_buffer(enum call call) {
+    return call != STRENGTH && call != JOINED;
+}
+
+static inline fe_reply make_call(const struct asked *asked) {
+    const uint32_t *n = asked->number;
+    struct slice i = asked->read, v = asked->accounts, o = asked->buffer, d = asked->desk;
+    switch (asked->call) {
+    case BUILD: return fe_build(i.at, i.length, o.at, o.length);
+    case READ: return fe_read(i.at, i.length, o.at, o.length);
+    case STRENGTH: return fe_strength(i.at, i.length, n[0], n[1], d.at, d.length);
+    case JOINED: return fe_joined(i.at, i.length, n[0], n[1], n[2], n[3], d.at, d.length);
+    case GROUPS_AT: return fe_groups_at(i.at, i.length, v.at, v.length, asked->k, o.at, o.length, d.at, d.length);
+    case STRONGEST: return fe_strongest_groups(i.at, i.length, v.at, v.length, o.at, o.length, d.at, d.length);
+    case ALL_GROUPS: return fe_all_groups(i.at, i.length, v.at, v.length, o.at, o.length, d.at, d.length);
+    default: return fe_group_links(i.at, i.length, n[0], n[1], asked->k, o.at, o.length, d.at, d.length);
+    }
+}
+
+#endif
