@@ -30,7 +30,7 @@ typedef struct {
 #define FE_STACK_MAX 163840
 
 /* Every call:
- *   - A slice is a pointer to its first byte and its length in bytes. A pointer is not null, not even with length 0. No alignment is needed.
+ *   - A slice is a pointer to its first byte and its length in bytes. With length 0 any pointer will do, null too. No alignment is needed.
  *   - A slice is lent until the call returns; the call keeps no pointer. It reads and writes the slices' bytes only.
  *   - Slices of one call do not overlap where one of them is written. No other thread writes a lent slice, or reads one that is written.
  *   - The call allocates nothing, keeps nothing between calls and has no global data, so several threads may call at once with slices of their own.

@@ -1,0 +1,220 @@
+/* Slices at the edges of what may be lent: empty ones with any pointer (of a live byte, into memory that cannot be touched, null) in every combination, accounts
+ * that lie inside the index, and slices longer than 4 GiB. The library must reply as for plain slices; and each planted fault must be found.
+ * The last line is 'N passed, M failed', one for each combination, part of the index, long slice and planted fault. */
+#define _GNU_SOURCE
+#include "calls.h"
+
+#include <stdio.h>
+#include <string.h>
+#include <sys/mman.h>
+
+enum { PAGE = 4096, FILL = 0xA5, RECORD = 6, ROOM = 200 };
+
+/* Card A of document 01. */
+static const uint8_t CARD[36] = {
+    1, 0, 5, 0, 6,
+    6, 0, 0, 0, 1,  6, 0, 0, 0, 2,  6, 0, 1, 0, 2,  6, 0, 1, 0, 3,  6, 0, 2, 0, 3,  6, 0, 3, 0, 4,
+    5,
+};
+
+static const struct question {
+    uint32_t number[4], k;
+    uint8_t accounts[2];
+} ASKED = {{1, 2, 2, 3}, 3, {0, 1}};
+
+/* Of each call done on this card: the value, and what is in the buffer. */
+static uint32_t value[CALLS];
+static uint8_t result[CALLS][ROOM], index_bytes[ROOM];
+static size_t index_len;
+
+static uint8_t *untouchable;
+static int passed, failed;
+
+static void count(const char *what, const char *name, int holds) {
+    if (holds) {
+        passed++;
+    } else {
+        failed++;
+        printf("FAILED empty: %s, %s\n", name, what);
+    }
+}
+
+/* ---- what is lent ---- */
+
+/* A slice as it is, or empty with one of three pointers. */
+enum state { WHOLE, EMPTY, EMPTY_UNTOUCHABLE, EMPTY_NULL, STATES };
+
+static struct {
+    uint8_t read[ROOM], accounts[2], buffer[ROOM], desk[RECORD];
+} own;
+
+static struct slice in_state(uint8_t *at, size_t length, enum state state) {
+    uint8_t *const pointer[STATES] = {at, at, untouchable, NULL};
+    return (struct slice){pointer[state], state == WHOLE ? length : 0};
+}
+
+/* The call with its slices in these states; the memory is filled anew. */
+static struct asked lend(enum call call, enum state read, enum state accounts, enum state buffer, enum state desk) {
+    struct asked a = {.call = call, .k = ASKED.k};
+    size_t length = call == BUILD ? sizeof CARD : index_len;
+    memset(&own, FILL, sizeof own);
+    memcpy(own.read, call == BUILD ? CARD : index_bytes, length);
+    memcpy(own.accounts, ASKED.accounts, sizeof own.accounts), memcpy(a.number, ASKED.number, sizeof a.number);
+    memset(own.desk, 0, FE_DESK);
+    a.read = in_state(own.read, length, read), a.accounts = in_state(own.accounts, sizeof own.accounts, accounts);
+    a.buffer = in_state(own.buffer, ROOM, buffer), a.desk = in_state(own.desk, RECORD, desk);
+    return a;
+}
+
+/* ---- empty slices ---- */
+
+/* The refusal that the empty slices lead to, in the calls' order of checks; 0 if none. */
+static uint32_t refusal_of(const struct asked *a) {
+    if (!a->read.length) return a->call == BUILD ? 1 : 7;
+    if (has_accounts(a->call) && !a->accounts.length) return 8;
+    if (has_buffer(a->call) && !a->buffer.length) return 12;
+    return is_question(a->call) && !a->desk.length ? 12 : 0;
+}
+
+/* Reply, buffer and desk record are as they must be. */
+static int right(const struct asked *a, fe_reply reply) {
+    uint8_t buffer[ROOM], desk[RECORD] = {0, 0, 0, 0, FILL, FILL};
+    uint32_t refusal = refusal_of(a);
+    int done = refusal == 0;
+    memset(buffer, FILL, ROOM);
+    if (done && has_buffer(a->call)) memcpy(buffer, result[a->call], value[a->call]);
+    if (done && is_question(a->call)) desk[3] = 1;
+    return reply.refusal == refusal && reply.value == (done ? value[a->call] : 0) && !reply.second && !reply.third && !memcmp(own.buffer, buffer, ROOM) &&
+           !memcmp(own.desk, desk, RECORD);
+}
+
+/* All states of all slices that the call has; gives how many combinations were wrong. */
+static int combinations(library *library, enum call call, int counted) {
+    int wrong = 0;
+    for (int i = 0; i < STATES * STATES * STATES * STATES; i++) {
+        enum state read = i % STATES, accounts = i / STATES % STATES, buffer = i / STATES / STATES % STATES, desk = i / STATES / STATES / STATES;
+        if ((!has_accounts(call) && accounts) || (!has_buffer(call) && buffer) || (!is_question(call) && desk)) continue;
+        struct asked a = lend(call, read, accounts, buffer, desk);
+        int holds = right(&a, library(&a));
+        if (counted) count("empty slices", name_of(call), holds);
+        wrong += !holds;
+    }
+    return wrong;
+}
+
+/* ---- accounts inside the index ---- */
+
+/* Each part of the index as the accounts, beside a copy of it; gives how many differed. */
+static int inside(library *library, enum call call, int counted) {
+    uint8_t copy[ROOM], buffer[ROOM], desk[RECORD];
+    int wrong = 0;
+    for (size_t from = 0; from <= index_len; from++)
+        for (size_t length = 0; length <= 34 && from + length <= index_len; length++) {
+            struct asked a = lend(call, WHOLE, WHOLE, WHOLE, WHOLE);
+            memcpy(copy, index_bytes + from, length);
+            a.accounts = (struct slice){copy, length};
+            fe_reply apart = make_call(&a);
+            memcpy(buffer, own.buffer, ROOM), memcpy(desk, own.desk, RECORD);
+            a = lend(call, WHOLE, WHOLE, WHOLE, WHOLE);
+            a.accounts = (struct slice){own.read + from, length};
+            fe_reply within = library(&a);
+            int holds = !memcmp(&apart, &within, sizeof apart) && !memcmp(buffer, own.buffer, ROOM) && !memcmp(desk, own.desk, RECORD);
+            if (counted) count("accounts inside the index", name_of(call), holds);
+            wrong += !holds;
+        }
+    return wrong;
+}
+
+/* ---- slices above 4 GiB ---- */
+
+static const size_t FOUR_GIB = (size_t)1 << 32;
+
+/* Each slice in turn is 4 GiB longer than it was: what is read is then refused, what is written suffices. Gives how many were wrong. */
+static int long_slices(library *library, uint8_t *memory, enum call call, int counted) {
+    int wrong = 0;
+    for (int which = 0; which < 4; which++) {
+        struct asked a = lend(call, WHOLE, WHOLE, WHOLE, WHOLE);
+        struct slice *const slices[] = {&a.read, &a.accounts, &a.buffer, &a.desk};
+        if ((which == 1 && !has_accounts(call)) || (which == 2 && !has_buffer(call)) || (which == 3 && !is_question(call))) continue;
+        uint32_t refusal = which == 0 ? (call == BUILD ? 1 : 7) : which == 1 ? 8 : 0;
+        uint32_t wanted = refusal == 0 ? value[call] : refusal == 1 ? sizeof CARD : 0;
+        memcpy(memory, slices[which]->at, slices[which]->length);
+        slices[which]->at = memory;
+        slices[which]->length = which > 1 ? FOUR_GIB + 1 : FOUR_GIB + slices[which]->length;
+        fe_reply reply = library(&a);
+        int holds = reply.refusal == refusal && reply.value == wanted && !reply.second && !reply.third;
+        if (which == 2 && holds) holds = !memcmp(memory, result[call], value[call]);
+        if (which == 3 && holds) holds = memory[3] == 1 && memory[4] == FILL;
+        if (counted) count("a slice above 4 GiB", name_of(call), holds);
+        wrong += !holds;
+    }
+    return wrong;
+}
+
+/* ---- planted faults ---- */
+
+static fe_reply null_is_12(const struct asked *a) {
+    fe_reply reply = make_call(a);
+    return a->desk.at == NULL && is_question(a->call) && reply.refusal == 7 ? (fe_reply){12, 0, 0, 0} : reply;
+}
+
+static fe_reply empty_is_done(const struct asked *a) {
+    fe_reply reply = make_call(a);
+    return a->call == READ && reply.refusal == 12 ? (fe_reply){0, 0, 0, 0} : reply;
+}
+
+static fe_reply looks_at_another_account(const struct asked *a) {
+    struct asked other = *a;
+    if (a->accounts.at > a->read.at && a->accounts.at < a->read.at + a->read.length) other.accounts.at--;
+    return make_call(&other);
+}
+
+static fe_reply length_cut(const struct asked *a) {
+    struct asked other = *a;
+    other.read.length = (uint32_t)other.read.length, other.accounts.length = (uint32_t)other.accounts.length;
+    return make_call(&other);
+}
+
+static fe_reply room_cut(const struct asked *a) {
+    struct asked other = *a;
+    other.buffer.length = (uint32_t)other.buffer.length, other.desk.length = (uint32_t)other.desk.length;
+    return make_call(&other);
+}
+
+static void planted_faults(uint8_t *memory) {
+    count("planted", "a null desk record refused first", combinations(null_is_12, STRENGTH, 0) > 0);
+    count("planted", "a reading into nothing done", combinations(empty_is_done, READ, 0) > 0);
+    count("planted", "other accounts read where they lie in the index", inside(looks_at_another_account, ALL_GROUPS, 0) > 0);
+    if (!memory) return;
+    count("planted", "lengths read cut to 32 bits", long_slices(length_cut, memory, BUILD, 0) > 0 && long_slices(length_cut, memory, GROUPS_AT, 0) > 0);
+    count("planted", "lengths written cut to 32 bits", long_slices(room_cut, memory, READ, 0) > 0 && long_slices(room_cut, memory, JOINED, 0) > 0);
+}
+
+/* The calls on plain slices: they must be done. */
+static int learn(void) {
+    index_len = fe_build(CARD, sizeof CARD, index_bytes, sizeof index_bytes).value;
+    for (enum call call = BUILD; call < CALLS; call++) {
+        struct asked a = lend(call, WHOLE, WHOLE, WHOLE, WHOLE);
+        fe_reply reply = make_call(&a);
+        if (reply.refusal) return 0;
+        value[call] = reply.value;
+        memcpy(result[call], own.buffer, ROOM);
+    }
+    return 1;
+}
+
+int main(void) {
+    untouchable = mmap(NULL, PAGE, PROT_NONE, MAP_PRIVATE | MAP_ANONYMOUS, -1, 0);
+    uint8_t *memory = mmap(NULL, FOUR_GIB + PAGE, PROT_READ | PROT_WRITE, MAP_PRIVATE | MAP_ANONYMOUS | MAP_NORESERVE, -1, 0);
+    if (untouchable == MAP_FAILED || !learn()) return 2;
+    untouchable += PAGE / 2;
+    if (memory == MAP_FAILED) memory = NULL, printf("empty: no 4 GiB of address space: slices above that were not tried\n");
+    planted_faults(memory);
+    for (enum call call = BUILD; call < CALLS; call++) {
+        combinations(make_call, call, 1);
+        if (has_accounts(call)) inside(make_call, call, 1);
+        if (memory) long_slices(make_call, memory, call, 1);
+    }
+    printf("%d passed, %d failed\n", passed, failed);
+    return failed != 0;
+}
