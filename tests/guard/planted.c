@@ -1,0 +1,230 @@
+/* Planted faults: each makes the library's call and does one thing wrong. */
+#include "planted.h"
+
+static uint8_t look(const uint8_t *byte) {
+    return *(const volatile uint8_t *)byte;
+}
+
+static void write_byte(uint8_t *byte, uint8_t value) {
+    *(volatile uint8_t *)byte = value;
+}
+
+static void flip(uint8_t *byte) {
+    write_byte(byte, look(byte) ^ 1);
+}
+
+/* ---- memory ---- */
+
+static fe_reply reads_past(const struct asked *a) {
+    look(a->read.at + a->read.length);
+    return make_call(a);
+}
+
+static fe_reply reads_before(const struct asked *a) {
+    look(a->read.at - 1);
+    return make_call(a);
+}
+
+static fe_reply reads_past_accounts(const struct asked *a) {
+    if (a->accounts.length) look(a->accounts.at + a->accounts.length);
+    return make_call(a);
+}
+
+static fe_reply reads_empty(const struct asked *a) {
+    if (!a->read.length) look(a->read.at);
+    return make_call(a);
+}
+
+static fe_reply reads_empty_buffer(const struct asked *a) {
+    if (!a->buffer.length) look(a->buffer.at);
+    return make_call(a);
+}
+
+static fe_reply writes_what_it_read(const struct asked *a) {
+    if (a->read.length) write_byte(a->read.at, look(a->read.at));
+    return make_call(a);
+}
+
+static fe_reply writes_past_buffer(const struct asked *a) {
+    if (a->buffer.length) flip(a->buffer.at + a->buffer.length);
+    return make_call(a);
+}
+
+static fe_reply writes_before_buffer(const struct asked *a) {
+    if (a->buffer.length) flip(a->buffer.at - 1);
+    return make_call(a);
+}
+
+static fe_reply writes_past_desk(const struct asked *a) {
+    flip(a->desk.at + a->desk.length);
+    return make_call(a);
+}
+
+/* ---- bytes of the result, and bytes that stay ---- */
+
+static fe_reply writes_after_result(const struct asked *a) {
+    fe_reply reply = make_call(a);
+    if (reply.refusal == 0 && reply.value < a->buffer.length) flip(a->buffer.at + reply.value);
+    return reply;
+}
+
+static fe_reply other_last_byte(const struct asked *a) {
+    fe_reply reply = make_call(a);
+    if (reply.refusal == 0) flip(a->buffer.at + reply.value - 1);
+    return reply;
+}
+
+static fe_reply refused_and_changed(const struct asked *a) {
+    fe_reply reply = make_call(a);
+    if (reply.refusal && a->buffer.length) flip(a->buffer.at + a->buffer.length - 1);
+    return reply;
+}
+
+static fe_reply turns_a_link(const struct asked *a) {
+    fe_reply reply = make_call(a);
+    if (reply.refusal == 0 && reply.value > 6) flip(a->buffer.at + 9), flip(a->buffer.at + 7);
+    return reply;
+}
+
+static fe_reply one_number_less(const struct asked *a) {
+    fe_reply reply = make_call(a);
+    if (reply.refusal == 0 && reply.value > 2) reply.value -= 2, a->buffer.at[1]--;
+    return reply;
+}
+
+/* ---- replies ---- */
+
+static fe_reply other_place(const struct asked *a) {
+    fe_reply reply = make_call(a);
+    if (reply.refusal == 6) reply.value += 5;
+    return reply;
+}
+
+static fe_reply third_number(const struct asked *a) {
+    fe_reply reply = make_call(a);
+    reply.third = 1;
+    return reply;
+}
+
+static fe_reply exact_is_12(const struct asked *a) {
+    fe_reply reply = make_call(a);
+    if (reply.refusal == 0 && reply.value == a->buffer.length) reply.refusal = 12, reply.value = 0;
+    return reply;
+}
+
+static fe_reply takes_no_index(const struct asked *a) {
+    fe_reply reply = make_call(a);
+    if (reply.refusal == 7 && a->read.length > 5 && a->buffer.length >= 6) reply.refusal = 0, reply.value = 6;
+    return reply;
+}
+
+static fe_reply refuses_an_index(const struct asked *a) {
+    fe_reply reply = make_call(a);
+    if (reply.refusal == 12) reply.refusal = 7;
+    return reply;
+}
+
+static fe_reply one_less(const struct asked *a) {
+    fe_reply reply = make_call(a);
+    if (reply.refusal == 0 && reply.value > 3) reply.value--;
+    return reply;
+}
+
+static fe_reply short_desk_first(const struct asked *a) {
+    fe_reply reply = make_call(a);
+    if (reply.refusal && a->desk.length < 4) reply.refusal = 12;
+    return reply;
+}
+
+static fe_reply all_for_strongest(const struct asked *a) {
+    struct asked other = *a;
+    other.call = ALL_GROUPS;
+    return make_call(&other);
+}
+
+static fe_reply four_for_three(const struct asked *a) {
+    struct asked other = *a;
+    if (other.k == 3) other.k = 4;
+    return make_call(&other);
+}
+
+static fe_reply level_cut(const struct asked *a) {
+    struct asked other = *a;
+    other.k &= 255;
+    return make_call(&other);
+}
+
+static fe_reply account_cut(const struct asked *a) {
+    struct asked other = *a;
+    other.number[0] &= 65535;
+    return make_call(&other);
+}
+
+/* ---- the tally ---- */
+
+static fe_reply tally_by_two(const struct asked *a) {
+    fe_reply reply = make_call(a);
+    if (reply.refusal == 0 && a->desk.at[3] < 255) a->desk.at[3]++;
+    return reply;
+}
+
+static fe_reply tally_wraps(const struct asked *a) {
+    const uint8_t *d = a->desk.at;
+    int top = a->desk.length >= 4 && d[0] == 255 && d[1] == 255 && d[2] == 255 && d[3] == 255;
+    fe_reply reply = make_call(a);
+    for (int i = 0; i < 4 && top && reply.refusal == 0; i++) a->desk.at[i] = 0;
+    return reply;
+}
+
+static fe_reply tally_moved_when_refused(const struct asked *a) {
+    fe_reply reply = make_call(a);
+    if (reply.refusal == 11 && a->desk.length >= 4) a->desk.at[3]++;
+    return reply;
+}
+
+static fe_reply fifth_desk_byte(const struct asked *a) {
+    fe_reply reply = make_call(a);
+    if (reply.refusal == 0 && a->desk.length > 4) flip(a->desk.at + 4);
+    return reply;
+}
+
+const struct planted PLANTED[] = {
+    {"a byte past the links read", BUILD, reads_past},
+    {"a byte before the links read", BUILD, reads_before},
+    {"a byte past the index read", STRENGTH, reads_past},
+    {"a byte past the accounts read", ALL_GROUPS, reads_past_accounts},
+    {"an empty index read", GROUPS_AT, reads_empty},
+    {"an empty buffer read", READ, reads_empty_buffer},
+    {"the links written with their own bytes", BUILD, writes_what_it_read},
+    {"the index written with its own bytes", JOINED, writes_what_it_read},
+    {"a byte past the buffer written", BUILD, writes_past_buffer},
+    {"a byte before the answer written", GROUP_LINKS, writes_before_buffer},
+    {"a byte past the desk record written", STRONGEST, writes_past_desk},
+    {"a byte after the index changed", BUILD, writes_after_result},
+    {"a byte after the links file changed", READ, writes_after_result},
+    {"a byte after the answer changed", GROUP_LINKS, writes_after_result},
+    {"another last byte of the index", BUILD, other_last_byte},
+    {"the buffer changed by a refused call", BUILD, refused_and_changed},
+    {"the answer changed by a refused question", ALL_GROUPS, refused_and_changed},
+    {"a link read back changed", READ, turns_a_link},
+    {"the last group left out", ALL_GROUPS, one_number_less},
+    {"the last link left out", GROUP_LINKS, one_number_less},
+    {"another place of 6", BUILD, other_place},
+    {"a third number", BUILD, third_number},
+    {"12 at the exact length", BUILD, exact_is_12},
+    {"bytes taken that are no index", READ, takes_no_index},
+    {"7 for an index", READ, refuses_an_index},
+    {"a strength one less", STRENGTH, one_less},
+    {"joined one level less", JOINED, one_less},
+    {"12 before the other refusals", STRENGTH, short_desk_first},
+    {"all groups for the strongest", STRONGEST, all_for_strongest},
+    {"the groups at 4 for those at 3", GROUPS_AT, four_for_three},
+    {"k cut to a byte", GROUP_LINKS, level_cut},
+    {"an account cut to two bytes", GROUP_LINKS, account_cut},
+    {"the tally moved by two", STRENGTH, tally_by_two},
+    {"the tally gone from the top to 0", JOINED, tally_wraps},
+    {"the tally moved by a refused question", JOINED, tally_moved_when_refused},
+    {"the desk record's fifth byte changed", JOINED, fifth_desk_byte},
+};
+
+const size_t PLANTED_COUNT = sizeof PLANTED / sizeof *PLANTED;

@@ -1,0 +1,283 @@
+/* One call between guard pages and the check of all that it did; turn.h says what is given.
+ *
+ * Of every call: the reply is the right one in all four numbers, a refused call changes no lent byte, a done one changes only the first `value` bytes of its
+ * buffer and the four bytes of the tally, and these to what they must be. Of a build besides: what it wrote reads back as the sorted links file, and that builds to
+ * the same bytes. A reading is right if it gives the links that the bytes name and if a build of these gives the bytes again (right.h). */
+#define _POSIX_C_SOURCE 200809L
+#include "turn.h"
+#include "lent.h"
+#include "random.h"
+
+#include <setjmp.h>
+#include <signal.h>
+#include <stdio.h>
+#include <stdlib.h>
+#include <string.h>
+
+/* ---- a turn as bytes ---- */
+
+static uint32_t four(const uint8_t *at) {
+    return two(at) << 16 | two(at + 2);
+}
+
+static void put_four(uint8_t *at, uint32_t value) {
+    put_two(at, value >> 16), put_two(at + 2, value & 0xFFFF);
+}
+
+static size_t least(size_t a, size_t b) {
+    return a < b ? a : b;
+}
+
+void turn_read(struct turn *t, const uint8_t *data, size_t size) {
+    uint8_t head[TURN_HEAD] = {0};
+    size_t at = least(size, TURN_HEAD);
+    if (at) memcpy(head, data, at);
+    t->call = head[0] % CALLS, t->lay = head[1], t->room = head[2] % ROOMS, t->as_card = head[3] & 1;
+    t->desk_len = head[4] % 10, t->given = (uint16_t)two(head + 5), t->tally = four(head + 7);
+    for (int i = 0; i < 4; i++) t->number[i] = four(head + 11 + 4 * i);
+    t->k = four(head + 27), t->accounts_len = head[31] % (TURN_ACCOUNTS + 1), t->edits = head[32] % (TURN_EDITS + 1);
+    t->accounts_len = (uint8_t)least(t->accounts_len, size - at);
+    if (t->accounts_len) memcpy(t->accounts, data + at, t->accounts_len);
+    at += t->accounts_len;
+    t->edits = (uint8_t)least(t->edits, (size - at) / 6);
+    for (int i = 0; i < t->edits; i++, at += 6)
+        t->edit[i] = (struct edit){data[at] % EDIT_KINDS, data[at + 1], (uint16_t)two(data + at + 2), (uint16_t)two(data + at + 4)};
+    t->card_len = least(size - at, TURN_CARD);
+    if (t->card_len) memcpy(t->card, data + at, t->card_len);
+}
+
+size_t turn_write(const struct turn *t, uint8_t *data) {
+    size_t at = TURN_HEAD;
+    memset(data, 0, TURN_HEAD);
+    data[0] = t->call, data[1] = t->lay, data[2] = t->room, data[3] = t->as_card, data[4] = t->desk_len;
+    put_two(data + 5, t->given), put_four(data + 7, t->tally);
+    for (int i = 0; i < 4; i++) put_four(data + 11 + 4 * i, t->number[i]);
+    put_four(data + 27, t->k), data[31] = t->accounts_len, data[32] = t->edits;
+    memcpy(data + at, t->accounts, t->accounts_len), at += t->accounts_len;
+    for (int i = 0; i < t->edits; i++, at += 6) {
+        data[at] = t->edit[i].kind, data[at + 1] = t->edit[i].count;
+        put_two(data + at + 2, t->edit[i].at), put_two(data + at + 4, t->edit[i].value);
+    }
+    memcpy(data + at, t->card, t->card_len);
+    return at + t->card_len;
+}
+
+/* ---- edits ---- */
+
+/* Bytes that are edited: never more than what can be lent. */
+struct bytes {
+    uint8_t at[LENT_MAX];
+    size_t length;
+};
+
+static void insert(struct bytes *b, size_t at, const uint8_t *from, size_t count) {
+    static uint8_t copy[LENT_MAX];
+    if (count > LENT_MAX - b->length) return;
+    memcpy(copy, from, count);
+    memmove(b->at + at + count, b->at + at, b->length - at);
+    memcpy(b->at + at, copy, count);
+    b->length += count;
+}
+
+static void append(struct bytes *b, size_t count, uint8_t value) {
+    count = least(count, LENT_MAX - b->length);
+    memset(b->at + b->length, value, count);
+    b->length += count;
+}
+
+static void change(struct bytes *b, const struct edit *e, size_t record) {
+    uint8_t fill[256];
+    if (b->length == 0) {
+        append(b, e->count, (uint8_t)e->value);
+        return;
+    }
+    size_t at = e->at % b->length, other = e->value % b->length, count = least(e->count, b->length - at);
+    size_t records = b->length > 5 + record ? (b->length - 5) / record : 0;
+    switch (e->kind) {
+    case SET: b->at[at] = (uint8_t)e->value; break;
+    case FLIP: b->at[at] ^= (uint8_t)(1 << e->value % 8); break;
+    case INSERT: memset(fill, e->value, sizeof fill), insert(b, at, fill, e->count); break;
+    case DELETE: memmove(b->at + at, b->at + at + count, b->length - at - count), b->length -= count; break;
+    case CUT: b->length = at; break;
+    case APPEND: append(b, e->count, (uint8_t)e->value); break;
+    case SWAP_RECORDS:
+        if (records == 0) break;
+        memcpy(fill, b->at + 5 + record * (e->at % records), record);
+        memmove(b->at + 5 + record * (e->at % records), b->at + 5 + record * (e->value % records), record);
+        memcpy(b->at + 5 + record * (e->value % records), fill, record);
+        break;
+    case ADD:
+        if (at + 2 <= b->length) put_two(b->at + at, two(b->at + at) + e->value);
+        break;
+    case COPY: memmove(b->at + other, b->at + at, least(count, b->length - other)); break;
+    case REPEAT_RECORD:
+        if (records) insert(b, 5 + record * (e->value % records), b->at + 5 + record * (e->at % records), record);
+        break;
+    default: append(b, e->value, (uint8_t)e->count); break;
+    }
+}
+
+/* What the call reads: the card's bytes or its index, edited. */
+static void given_bytes(const struct turn *t, struct bytes *b, struct met *met) {
+    int built = 0;
+    if (t->call != BUILD && t->as_card) {
+        fe_reply reply = fe_build(t->card, t->card_len, b->at, FE_INDEX_MAX);
+        built = reply.refusal == 0, b->length = reply.value, met->made++;
+    }
+    if (!built) memcpy(b->at, t->card, t->card_len), b->length = t->card_len;
+    for (int i = 0; i < t->edits; i++) change(b, &t->edit[i], t->call == BUILD ? 5 : 8);
+}
+
+/* ---- memory and faults ---- */
+
+enum slice_number { FIRST, SECOND, THIRD, DESK, SLICES }; /* what is read; the accounts; the buffer; the desk record */
+
+static struct lent lent[SLICES];
+static uint8_t noise[2 * LENT_MAX];
+static sigjmp_buf back;
+static volatile sig_atomic_t calling;
+static char fault[128];
+
+/* A guard page was touched, or a slice written that is only read. */
+static void touched(int number, siginfo_t *info, void *context) {
+    (void)number, (void)context;
+    long offset;
+    if (!calling) _Exit(3);
+    snprintf(fault, sizeof fault, "memory touched outside the slices");
+    for (int i = 0; i < SLICES; i++)
+        if (lent_has(&lent[i], info->si_addr, &offset))
+            snprintf(fault, sizeof fault, "%s of %zu bytes: byte %ld touched", lent[i].name, lent[i].length, offset);
+    siglongjmp(back, 1);
+}
+
+void turn_start(int catch) {
+    struct random random = {1};
+    lent_make(&lent[FIRST], "the bytes read", 0), lent_make(&lent[SECOND], "the accounts", 0);
+    lent_make(&lent[THIRD], "the buffer", 1), lent_make(&lent[DESK], "the desk record", 1);
+    for (size_t i = 0; i < sizeof noise; i++) noise[i] = (uint8_t)random_number(&random);
+    if (!catch) return;
+    struct sigaction action = {.sa_sigaction = touched, .sa_flags = SA_SIGINFO};
+    sigaction(SIGSEGV, &action, NULL), sigaction(SIGBUS, &action, NULL);
+}
+
+/* ---- the call ---- */
+
+/* A slice as the call gets it. */
+static struct slice put(const struct turn *t, enum slice_number number, const uint8_t *bytes, size_t length) {
+    uint8_t *at = lent_put(&lent[number], bytes, length, t->lay >> number & 1);
+    return (struct slice){length == 0 && t->lay & NULL_IF_EMPTY ? NULL : at, length};
+}
+
+/* Gives 0 if the call touched what it must not. */
+static int called(library *call, const struct asked *asked, fe_reply *reply) {
+    if (sigsetjmp(back, 1)) {
+        calling = 0;
+        return 0;
+    }
+    calling = 1;
+    *reply = call(asked);
+    calling = 0;
+    return 1;
+}
+
+/* ---- what is right ---- */
+
+/* What the call must give with a buffer that is long enough, and what it then writes there. */
+static fe_reply right(const struct asked *asked, uint8_t *result, struct met *met) {
+    static uint8_t links[FE_LINKS_MAX];
+    size_t links_len;
+    if (asked->call == BUILD) {
+        fe_reply reply = right_links(asked->read.at, asked->read.length);
+        if (reply.refusal) return reply;
+        met->made++;
+        return fe_build(asked->read.at, asked->read.length, result, FE_INDEX_MAX);
+    }
+    met->made++;
+    if (!right_index(asked->read.at, asked->read.length, links, &links_len)) return (fe_reply){7, 0, 0, 0};
+    if (asked->call != READ) return right_answer(asked, result);
+    memcpy(result, links, links_len);
+    return (fe_reply){0, (uint32_t)links_len, 0, 0};
+}
+
+static size_t room_of(const struct turn *t, size_t result_len) {
+    switch (t->room) {
+    case EXACT: return result_len;
+    case ONE_LESS: return result_len ? result_len - 1 : 0;
+    case ONE_MORE: return result_len + 1;
+    case EMPTY: return 0;
+    case GIVEN: return t->given;
+    default: return FE_INDEX_MAX;
+    }
+}
+
+/* What an accepted links file's index leads to: the sorted links file, and back to the same index. */
+static const char *there_and_back(const uint8_t *file, size_t file_len, const uint8_t *index, size_t index_len, struct met *met) {
+    static uint8_t sorted[FE_LINKS_MAX], links[FE_LINKS_MAX], again[FE_INDEX_MAX];
+    right_sorted(file, sorted);
+    met->made += 2;
+    fe_reply read = fe_read(index, index_len, links, sizeof links);
+    if (read.refusal || read.value != file_len || memcmp(links, sorted, file_len)) return "the index reads back as another links file";
+    fe_reply built = fe_build(links, read.value, again, sizeof again);
+    if (built.refusal || built.value != index_len || memcmp(again, index, index_len)) return "what was read back builds to another index";
+    return NULL;
+}
+
+static void expect_desk(const struct turn *t, int answered, uint8_t *desk) {
+    if (answered && t->tally != UINT32_MAX) put_four(desk, t->tally + 1);
+}
+
+/* What changed that should not, or did not change as it should. */
+static const char *changes(const struct asked *asked, int answered, const uint8_t *buffer, const uint8_t *desk) {
+    if (!lent_holds(&lent[FIRST], asked->read.at) || !lent_holds(&lent[SECOND], asked->accounts.at)) return "a byte changed that is only read";
+    if (!lent_holds(&lent[THIRD], buffer)) return answered ? "the buffer holds something else" : "a refused call changed the buffer";
+    if (!lent_holds(&lent[DESK], desk)) return answered ? "the desk record holds something else" : "a refused call changed the desk record";
+    for (int i = 0; i < SLICES; i++)
+        if (!lent_side_stays(&lent[i])) return "a byte beside a slice changed";
+    return NULL;
+}
+
+static const char *replies(fe_reply found, fe_reply wanted) {
+    if (found.second || found.third) return "second or third is not 0";
+    if (found.refusal == wanted.refusal && found.value == wanted.value) return NULL;
+    snprintf(fault, sizeof fault, "reply %u %u, should be %u %u", found.refusal, found.value, wanted.refusal, wanted.value);
+    return fault;
+}
+
+const char *turn_run(library *call, const struct turn *t, struct met *met) {
+    static struct bytes given;
+    static uint8_t result[LENT_MAX], buffer[LENT_MAX], accounts[TURN_ACCOUNTS];
+    uint8_t desk[16];
+    *met = (struct met){.call = t->call};
+    given_bytes(t, &given, met);
+    met->length = given.length;
+
+    /* what is asked; the accounts may be a part of the index itself */
+    struct asked asked = {.call = t->call, .k = t->k, .read = {given.at, given.length}, .accounts = {accounts, t->accounts_len}};
+    memcpy(asked.number, t->number, sizeof asked.number), memcpy(accounts, t->accounts, t->accounts_len);
+    size_t inside = t->given % (given.length + 1);
+    int is_inside = has_accounts(t->call) && t->lay & ACCOUNTS_INSIDE;
+    if (is_inside) asked.accounts = (struct slice){given.at + inside, least(t->accounts_len, given.length - inside)};
+
+    fe_reply wanted = right(&asked, result, met);
+    int question = is_question(t->call), answered = wanted.refusal == 0;
+    size_t length = answered && has_buffer(t->call) ? wanted.value : 0, room = room_of(t, length);
+    if (answered && (room < length || (question && t->desk_len < FE_DESK))) wanted = (fe_reply){12, 0, 0, 0}, answered = 0;
+
+    /* what is lent */
+    const uint8_t *before = noise + t->given;
+    memcpy(desk, before, sizeof desk), put_four(desk, t->tally);
+    struct asked lending = asked;
+    lending.read = put(t, FIRST, given.at, given.length), lending.accounts = put(t, SECOND, asked.accounts.at, asked.accounts.length);
+    lending.buffer = put(t, THIRD, before, room), lending.desk = put(t, DESK, desk, t->desk_len);
+    if (is_inside && asked.accounts.length) lending.accounts.at = lending.read.at + inside;
+    memcpy(buffer, before, room);
+    if (answered) memcpy(buffer, result, length);
+    if (question) expect_desk(t, answered, desk);
+
+    met->made++;
+    if (!called(call, &lending, &met->reply)) return fault;
+    const char *what = replies(met->reply, wanted);
+    if (!what) what = changes(&asked, answered, buffer, desk);
+    if (!what && t->call == BUILD && answered) what = there_and_back(given.at, given.length, result, length, met);
+    return what;
+}
