@@ -1,92 +1,97 @@
 -- All levels: `level`, `peel_levels`, `peel`. Assumes nothing.
-use mathlib.Core.Path.{_≡_, sym, _∙_}
-use mathlib.Core.Logic.{_≢_}
+use mathlib.Core.Path.{_≡_, refl, sym, _∙_}
+use mathlib.Core.Logic.{_⊎_, inl, inr, _≢_}
 use mathlib.Core.List.{List}
 use Prim.Native.Nat.{ℕ, _+_, _≤_, _<_}
 use native.Mathlib.Omega.{arith}
-use lib.ListN.{getD}
+use lib.ListN.{length, getD, set, length-set}
+use lib.Seq.{getD-set-same, getD-set-other}
 use Rattle.truss.specs.Graph.{Graph, support, linkAt}
 use Rattle.truss.specs.Strength.{strength}
 use Rattle.laws.proofs.Lists.{support-le}
+use Rattle.laws.proofs.Numbers.{same-or-not}
 use Rattle.laws.proofs.Rounds.{truss-nested}
 use Rattle.laws.proofs.ProperLinks.{live}
 use Rattle.columns.specs.Columns.{cell, SUPPORT, STRENGTH, QUEUE, FREE, noSupport}
 use Rattle.columns.specs.Wiping.{Wiping}
-use Rattle.adjacency.specs.State.{Named, Near, Marks, Kept, kept-none, kept-trans, kept-wiped, named-kept, near-kept, whole}
+use Rattle.adjacency.specs.State.{Named, Near, Marks, Held, kept-held, kept-wiped, held-none, held-trans, named-kept, named-held, whole, startAt}
 use Rattle.adjacency.specs.Lists.{Zeroed}
+use Rattle.removal.specs.Left.{Left, left-whole, left-kept}
+use Rattle.removal.specs.Marks.{Marked, marked-first, marked-falls}
 use Rattle.removal.specs.State.{All, None, Level, Ready}
 use Rattle.removal.specs.Level.{level-start}
 use Rattle.peeling.specs.Bare.{Bare, given, some, ready-bare}
 use Rattle.peeling.specs.Drain.{DrainPre, Drained}
-use Rattle.peeling.specs.Seed.{SeedPre, Seeding, level-seeded, Least}
+use Rattle.peeling.specs.Seed.{SeedPre, Seeding, seeding-left, level-seeded, Least}
 
-pub record LevelPre (G : Graph) (m n s at : ℕ) (d : ℕ → ℕ) (w start mark : List ℕ) : Type 0 where
+pub record LevelPre (G : Graph) (m n s at : ℕ) (d : ℕ → ℕ) (w start stop mark : List ℕ) : Type 0 where
   pub named : Named G m n w
-  pub near : Near G m w start
-  pub marks : Marks G mark at
-  pub here : at < G .n
+  pub left : Left G m w start stop
+  pub marked : Marked G m at w mark
   pub small : s < noSupport
+  pub some : 1 ≤ s
   pub ready : Ready G m (s + 2) d w
   pub least : (y : ℕ) → y < m → cell w m STRENGTH y ≡ 0 → s ≤ cell w m SUPPORT y
 
-abbrev pub LevelAsks : ℕ → ℕ → ℕ → ℕ → List ℕ → List ℕ → List ℕ → Type 0
-LevelAsks m n s at w start mark = (G : Graph) × (d : ℕ → ℕ) × LevelPre G m n s at d w start mark
+abbrev pub LevelAsks : ℕ → ℕ → ℕ → ℕ → List ℕ → List ℕ → List ℕ → List ℕ → Type 0
+LevelAsks m n s at w start stop mark = (G : Graph) × (d : ℕ → ℕ) × LevelPre G m n s at d w start stop mark
 
-abbrev pub LevelGives : ℕ → ℕ → ℕ → ℕ → ℕ → List ℕ → List ℕ → List ℕ → List ℕ → List ℕ → Type 0
-LevelGives m n s at r w w′ start mark mark′ = (G : Graph) (d : ℕ → ℕ) → LevelPre G m n s at d w start mark → (d′ : ℕ → ℕ) × Drained G m s r d′ w w′ mark′
+abbrev pub LevelGives : ℕ → ℕ → ℕ → ℕ → ℕ → List ℕ → List ℕ → List ℕ → List ℕ → List ℕ → List ℕ → List ℕ → Type 0
+LevelGives m n s at r w w′ start stop stop′ mark mark′ =
+    (G : Graph) (d : ℕ → ℕ) → LevelPre G m n s at d w start stop mark → (d′ : ℕ → ℕ) × Drained G m s r d′ w w′ start stop′ mark′
 
-module _ {G : Graph} {m n s at : ℕ} {d : ℕ → ℕ} {w start mark : List ℕ} (P : LevelPre G m n s at d w start mark) where
+module _ {G : Graph} {m n s at : ℕ} {d : ℕ → ℕ} {w start stop mark : List ℕ} (P : LevelPre G m n s at d w start stop mark) where
   begun : Level G m s None 0 0 d w
   begun = level-start (P .named) d (P .ready) s (omega arith) (P .least)
 
-  pub level-seeds : SeedPre G m n s d w start
-  level-seeds = record { named = P .named; near = P .near; small = P .small; queue = begun .queue }
+  pub level-seeds : SeedPre G m n s d w start stop
+  level-seeds = record { named = P .named; left = P .left; small = P .small; busy = λ y l t z. omega (arith, P .least y l t, z, P .some); queue = begun .queue }
 
-  pub level-drain : {tail : ℕ} {w₁ : List ℕ} → Seeding G m s All tail d w w₁ → DrainPre G m n s at tail d w₁ start mark
-  level-drain p = record {
+  pub level-drain : {tail : ℕ} {w₁ : List ℕ} → Seeding G m s All tail d w w₁ → DrainPre G m n s at tail d w₁ start stop mark
+  level-drain {tail} {w₁} p = record {
     named = named-kept (P .named) (p .kept);
-    near = near-kept (P .near) (p .kept);
-    marks = P .marks;
-    here = P .here;
+    left = seeding-left (P .named) (P .left) p;
+    marked = marked-falls (P .named) (λ y l n z. n (p .supports y l ∙ z)) (P .marked);
     small = P .small;
     level = level-seeded begun p;
   }
 
-  pub level-done : {tail r : ℕ} {d′ : ℕ → ℕ} {w₁ w₂ mark′ : List ℕ} → Seeding G m s All tail d w w₁ → Drained G m s r d′ w₁ w₂ mark′ → Drained G m s r d′ w w₂ mark′
-  level-done p e = record { ready = e .ready; above = e .above; kept = kept-trans (p .kept) (e .kept); marks = e .marks; here = e .here }
+  pub level-done : {tail r : ℕ} {d′ : ℕ → ℕ} {w₁ w₂ stop′ mark′ : List ℕ} → Seeding G m s All tail d w w₁ → Drained G m s r d′ w₁ w₂ start stop′ mark′
+      → Drained G m s r d′ w w₂ start stop′ mark′
+  level-done p e = record { ready = e .ready; above = e .above; held = held-trans (kept-held (p .kept)) (e .held); left = e .left; marked = e .marked }
 
 -- ---- all levels, from the first count and the strengths of the links in no triangle
 
-pub record LevelsPre (G : Graph) (m n : ℕ) (w start mark : List ℕ) : Type 0 where
+pub record LevelsPre (G : Graph) (m n : ℕ) (w start stop mark : List ℕ) : Type 0 where
   pub named : Named G m n w
-  pub near : Near G m w start
-  pub marks : Marks G mark 0
-  pub here : 0 < G .n
+  pub left : Left G m w start stop
+  pub marked : Marked G m n w mark
   pub triangles : (y : ℕ) → y < m → cell w m SUPPORT y ≡ support (G .n) (whole G) (linkAt G y)
   pub lone : (y : ℕ) → y < m → cell w m SUPPORT y ≡ 0 → cell w m STRENGTH y ≡ 2
   pub shared : (y : ℕ) → y < m → cell w m SUPPORT y ≢ 0 → cell w m STRENGTH y ≡ 0
 
-pub record Peeling (G : Graph) (m s at : ℕ) (d : ℕ → ℕ) (w₀ w mark : List ℕ) : Type 0 where
+pub record Peeling (G : Graph) (m s at : ℕ) (d : ℕ → ℕ) (w₀ w start stop mark : List ℕ) : Type 0 where
   pub ready : Ready G m (s + 2) d w
+  pub some : 1 ≤ s
   pub least : (y : ℕ) → y < m → cell w m STRENGTH y ≡ 0 → s ≤ cell w m SUPPORT y
-  pub kept : Kept m FREE w₀ w
-  pub marks : Marks G mark at
-  pub here : at < G .n
+  pub held : Held m FREE w₀ w
+  pub left : Left G m w start stop
+  pub marked : Marked G m at w mark
 
 -- column 4 has the strengths, column 3 is used up
 pub record Peeled (G : Graph) (m : ℕ) (w₀ w : List ℕ) : Type 0 where
   pub strengths : (y : ℕ) → y < m → cell w m STRENGTH y ≡ strength G (linkAt G y)
   pub supports : (y : ℕ) → y < m → cell w m SUPPORT y ≡ 0
-  pub kept : Kept m FREE w₀ w
+  pub held : Held m FREE w₀ w
 
-abbrev pub LevelsAsk : ℕ → ℕ → List ℕ → List ℕ → List ℕ → Type 0
-LevelsAsk m n w start mark = (G : Graph) × LevelsPre G m n w start mark
+abbrev pub LevelsAsk : ℕ → ℕ → List ℕ → List ℕ → List ℕ → List ℕ → Type 0
+LevelsAsk m n w start stop mark = (G : Graph) × LevelsPre G m n w start stop mark
 
-abbrev pub LevelsTurn : ℕ → ℕ → ℕ → ℕ → List ℕ → List ℕ → List ℕ → List ℕ → List ℕ → Type 0
-LevelsTurn m n s at w₀ w start mark₀ mark = (G : Graph) → LevelsPre G m n w₀ start mark₀ → (d : ℕ → ℕ) × Peeling G m s at d w₀ w mark
+abbrev pub LevelsTurn : ℕ → ℕ → ℕ → ℕ → List ℕ → List ℕ → List ℕ → List ℕ → List ℕ → List ℕ → List ℕ → Type 0
+LevelsTurn m n s at w₀ w start stop₀ stop mark₀ mark = (G : Graph) → LevelsPre G m n w₀ start stop₀ mark₀ → (d : ℕ → ℕ) × Peeling G m s at d w₀ w start stop mark
 
-abbrev pub LevelsGive : ℕ → ℕ → List ℕ → List ℕ → List ℕ → List ℕ → Type 0
-LevelsGive m n w₀ w start mark₀ = (G : Graph) → LevelsPre G m n w₀ start mark₀ → Peeled G m w₀ w
+abbrev pub LevelsGive : ℕ → ℕ → List ℕ → List ℕ → List ℕ → List ℕ → List ℕ → Type 0
+LevelsGive m n w₀ w start stop₀ mark₀ = (G : Graph) → LevelsPre G m n w₀ start stop₀ mark₀ → Peeled G m w₀ w
 
 raised : {G : Graph} {m k : ℕ} (k′ : ℕ) {d : ℕ → ℕ} {w : List ℕ} → k ≤ k′ → Ready G m k d w → Ready G m k′ d w
 raised {G} {m} {k} k′ l R = record {
@@ -98,47 +103,50 @@ raised {G} {m} {k} k′ l R = record {
   covers = λ e h. R .covers e (truss-nested G k k′ l e h);
 }
 
-module _ {G : Graph} {m n : ℕ} {w₀ start mark₀ : List ℕ} (P : LevelsPre G m n w₀ start mark₀) where
-  pub levels-start : {s : ℕ} → Least m m s w₀ → (d : ℕ → ℕ) × Peeling G m s 0 d w₀ w₀ mark₀
+module _ {G : Graph} {m n : ℕ} {w₀ start stop₀ mark₀ : List ℕ} (P : LevelsPre G m n w₀ start stop₀ mark₀) where
+  pub levels-start : {s : ℕ} → Least m m s w₀ → (d : ℕ → ℕ) × Peeling G m s n d w₀ w₀ start stop₀ mark₀
   levels-start {s} L = (
     given m w₀,
     record {
       ready = raised (s + 2) (omega (arith, up)) (ready-bare (P .named) (P .triangles) (P .lone) (P .shared));
+      some = up;
       least = L .low;
-      kept = kept-none m FREE w₀;
-      marks = P .marks;
-      here = P .here;
+      held = held-none m FREE w₀;
+      left = P .left;
+      marked = P .marked;
     },
   )
     where
       up : 1 ≤ s
       up = L .greatest 1 (omega arith) (some (P .named) (P .triangles) (P .lone) (P .shared))
 
-  module _ {s at : ℕ} {d : ℕ → ℕ} {w mark : List ℕ} (D : Peeling G m s at d w₀ w mark) where
-    pub levels-level : s < noSupport → LevelPre G m n s at d w start mark
+  module _ {s at : ℕ} {d : ℕ → ℕ} {w stop mark : List ℕ} (D : Peeling G m s at d w₀ w start stop mark) where
+    pub levels-level : s < noSupport → LevelPre G m n s at d w start stop mark
     levels-level l = record {
-      named = named-kept (P .named) (D .kept);
-      near = near-kept (P .near) (D .kept);
-      marks = D .marks;
-      here = D .here;
+      named = named-held (P .named) (D .held);
+      left = D .left;
+      marked = D .marked;
       small = omega arith;
+      some = D .some;
       ready = D .ready;
       least = D .least;
     }
 
-    pub levels-next : {s′ at′ : ℕ} {d′ : ℕ → ℕ} {w′ mark′ : List ℕ} → s < noSupport → Drained G m s at′ d′ w w′ mark′ → Least m m s′ w′ → Peeling G m s′ at′ d′ w₀ w′ mark′
+    pub levels-next : {s′ at′ : ℕ} {d′ : ℕ → ℕ} {w′ stop′ mark′ : List ℕ} → s < noSupport → Drained G m s at′ d′ w w′ start stop′ mark′ → Least m m s′ w′
+        → Peeling G m s′ at′ d′ w₀ w′ start stop′ mark′
     levels-next {s′} l e L =
         let up : s + 1 ≤ s′ = L .greatest (s + 1) (omega arith) (e .above) in
         record {
           ready = raised (s′ + 2) (omega arith) (e .ready);
+          some = omega arith;
           least = L .low;
-          kept = kept-trans (D .kept) (e .kept);
-          marks = e .marks;
-          here = e .here;
+          held = held-trans (D .held) (e .held);
+          left = e .left;
+          marked = e .marked;
         }
 
     pub levels-end : noSupport ≤ s → Peeled G m w₀ w
-    levels-end l = record { strengths = λ y k. sym (D .ready .known y k (placed y k)); supports = λ y k. D .ready .gone y k (D .ready .finished y k (placed y k)); kept = D .kept }
+    levels-end l = record { strengths = λ y k. sym (D .ready .known y k (placed y k)); supports = λ y k. D .ready .gone y k (D .ready .finished y k (placed y k)); held = D .held }
       where
         placed : (y : ℕ) → y < m → cell w m STRENGTH y ≢ 0
         placed y k z =
@@ -152,41 +160,62 @@ pub record PeelPre (G : Graph) (m n : ℕ) (w start mark : List ℕ) : Type 0 wh
   pub named : Named G m n w
   pub near : Near G m w start
   pub marks : Marks G mark 0
-  pub here : 0 < G .n
   pub triangles : (y : ℕ) → y < m → cell w m SUPPORT y ≡ support (G .n) (whole G) (linkAt G y)
 
--- column 4 has the strengths, columns 3 and 5 are 0
+-- column 4 has the strengths, columns 3 and 5 are 0; what is left of the lists in columns 1 and 2 is not told
 pub record PeelDone (G : Graph) (m n : ℕ) (w w′ mark′ : List ℕ) : Type 0 where
   pub strengths : (y : ℕ) → y < m → cell w′ m STRENGTH y ≡ strength G (linkAt G y)
   pub supports : (y : ℕ) → y < m → cell w′ m SUPPORT y ≡ 0
   pub queue : (y : ℕ) → y < m → cell w′ m QUEUE y ≡ 0
-  pub kept : Kept m FREE w w′
+  pub held : Held m FREE w w′
   pub blank : (c : ℕ) → c < n → getD mark′ c 0 ≡ 0
 
 abbrev pub PeelAsks : ℕ → ℕ → List ℕ → List ℕ → List ℕ → Type 0
 PeelAsks m n w start mark = (G : Graph) × PeelPre G m n w start mark
 
+abbrev pub PeelInAsks : ℕ → ℕ → List ℕ → List ℕ → List ℕ → List ℕ → Type 0
+PeelInAsks m n w start stop mark = (G : Graph) × PeelPre G m n w start mark × (length stop ≡ n)
+
 abbrev pub PeelGives : ℕ → ℕ → List ℕ → List ℕ → List ℕ → List ℕ → List ℕ → Type 0
 PeelGives m n w w′ start mark mark′ = (G : Graph) → PeelPre G m n w start mark → PeelDone G m n w w′ mark′
 
+-- the first a lists are whole
+pub record Ended (a : ℕ) (start stop₀ stop : List ℕ) : Type 0 where
+  pub same : length stop ≡ length stop₀
+  pub is : (c : ℕ) → c < a → startAt stop c ≡ startAt start (c + 1)
+
+pub ended-none : (start stop : List ℕ) → Ended 0 start stop stop
+ended-none start stop = record { same = refl; is = λ c l. absurd (omega arith) }
+
+pub ended-more : {a : ℕ} {start stop₀ stop : List ℕ} → Ended a start stop₀ stop → a < length stop → Ended (a + 1) start stop₀ (set stop a (startAt start (a + 1)))
+ended-more {a} {start} {stop₀} {stop} E l = record { same = length-set stop a (startAt start (a + 1)) ∙ E .same; is = λ c k. go c k (same-or-not c a) }
+  where
+    go : (c : ℕ) → c < a + 1 → (c ≡ a) ⊎ (c ≢ a) → startAt (set stop a (startAt start (a + 1))) c ≡ startAt start (c + 1)
+    go c k (inl e) = rw e (getD-set-same stop a (startAt start (a + 1)) 0 l)
+    go c k (inr e) = getD-set-other stop a c (startAt start (a + 1)) 0 e ∙ E .is c (omega arith)
+
+pub ended-all : {a n : ℕ} {start stop₀ stop : List ℕ} → a ≡ n → Ended a start stop₀ stop → Ended n start stop₀ stop
+ended-all q h = rw q at h
+
 module _ {G : Graph} {m n : ℕ} {w start mark : List ℕ} (P : PeelPre G m n w start mark) where
-  module _ {w₁ : List ℕ} (B : Bare m m w w₁) where
-    pub peel-levels : LevelsPre G m n w₁ start mark
+  module _ {stop₀ stop : List ℕ} (wide : length stop₀ ≡ n) (E : Ended n start stop₀ stop) {w₁ : List ℕ} (B : Bare m m w w₁) where
+    pub peel-levels : LevelsPre G m n w₁ start stop mark
     peel-levels = record {
       named = named-kept (P .named) (B .kept);
-      near = near-kept (P .near) (B .kept);
-      marks = P .marks;
-      here = P .here;
+      left =
+          left-kept (P .named) (left-whole (P .near) (E .same ∙ wide ∙ sym (P .named .accounts)) (λ a l. E .is a (omega (arith, P .named .accounts)))) (B .kept .entries) (λ y l n z.
+          n (B .supports y l ∙ z));
+      marked = marked-first (named-kept (P .named) (B .kept)) (P .marks);
       triangles = λ y l. B .supports y l ∙ P .triangles y l;
       lone = B .lone;
       shared = B .shared;
     }
 
-    pub peel-done : {w₂ w₃ mark₁ mark₂ : List ℕ} → Peeled G m w₁ w₂ → Wiping m QUEUE m w₂ w₃ → Zeroed n mark₁ mark₂ → PeelDone G m n w w₃ mark₂
-    peel-done R U Z = record {
-      strengths = λ y l. U .others STRENGTH y (omega arith) l ∙ R .strengths y l;
-      supports = λ y l. U .others SUPPORT y (omega arith) l ∙ R .supports y l;
-      queue = U .zero;
-      kept = kept-trans (B .kept) (kept-trans (R .kept) (kept-wiped U (omega arith) (omega arith)));
-      blank = Z .is;
-    }
+  pub peel-done : {w₁ w₂ w₃ mark₁ mark₂ : List ℕ} → Bare m m w w₁ → Peeled G m w₁ w₂ → Wiping m QUEUE m w₂ w₃ → Zeroed n mark₁ mark₂ → PeelDone G m n w w₃ mark₂
+  peel-done B R U Z = record {
+    strengths = λ y l. U .others STRENGTH y (omega arith) l ∙ R .strengths y l;
+    supports = λ y l. U .others SUPPORT y (omega arith) l ∙ R .supports y l;
+    queue = U .zero;
+    held = held-trans (kept-held (B .kept)) (held-trans (R .held) (kept-held (kept-wiped U (omega arith) (omega arith))));
+    blank = Z .is;
+  }

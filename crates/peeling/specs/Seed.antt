@@ -12,25 +12,26 @@ use Rattle.laws.proofs.Numbers.{same-or-not}
 use Rattle.laws.proofs.ProperLinks.{end-below}
 use Rattle.columns.specs.Columns.{cell, store, entry, SUPPORT, STRENGTH, QUEUE, FREE, COLUMNS, HALF, noSupport}
 use Rattle.columns.specs.Laws.{Upd, Same, upd-store, same-store, length-store, same-trans, upd-then, then-upd}
-use Rattle.adjacency.specs.State.{Named, Near, Kept, kept-none, kept-trans, kept-store, named-kept, near-kept, whole, other, startAt}
+use Rattle.adjacency.specs.State.{Named, Kept, kept-none, kept-trans, kept-store, named-kept, whole, other, startAt}
 use Rattle.adjacency.specs.Centres.{rank, Past, Now, now-split, now-of-past, past-all}
 use Rattle.removal.specs.Queue.{queue-push, queue-room, queue-met, queue-looked, upd-same}
+use Rattle.removal.specs.Left.{Left, left-fits, left-kept}
 use Rattle.removal.specs.State.{All, None, Waiting, Level}
 
 -- ---- one entry of account a
 
-pub record EntryPre (G : Graph) (m n a i x s tail : ℕ) (d : ℕ → ℕ) (w start : List ℕ) : Type 0 where
+pub record EntryPre (G : Graph) (m n a i x s tail : ℕ) (d : ℕ → ℕ) (w start stop : List ℕ) : Type 0 where
   pub named : Named G m n w
-  pub near : Near G m w start
+  pub left : Left G m w start stop
   pub here : a < G .n
   pub from : startAt start a ≤ i
-  pub to : i < startAt start (a + 1)
+  pub to : i < startAt stop a
   pub is : x ≡ entry w m i
   pub small : s < noSupport
   pub queue : Waiting G m s None 0 tail d w
 
 abbrev pub EntryAsks : ℕ → ℕ → ℕ → ℕ → ℕ → List ℕ → List ℕ → Type 0
-EntryAsks m a x s tail w start = (G : Graph) × (n : ℕ) × (i : ℕ) × (d : ℕ → ℕ) × EntryPre G m n a i x s tail d w start
+EntryAsks m a x s tail w start = (G : Graph) × (n : ℕ) × (i : ℕ) × (d : ℕ → ℕ) × (stop : List ℕ) × EntryPre G m n a i x s tail d w start stop
 
 -- the link has its place already or is above the level; a is not its centre; it goes into the queue
 pub data Seeded (m a x s tail r : ℕ) (w w′ start : List ℕ) : Type 0 where
@@ -39,15 +40,15 @@ pub data Seeded (m a x s tail r : ℕ) (w w′ start : List ℕ) : Type 0 where
   joins : cell w m STRENGTH (x % HALF) ≡ 0 → cell w m SUPPORT (x % HALF) ≤ s → r ≡ tail + 1
       → w′ ≡ store (store w m STRENGTH (x % HALF) (s + 2)) m QUEUE tail (x % HALF) → Seeded m a x s tail r w w′ start
 
-module _ {G : Graph} {m n a i x s tail : ℕ} {d : ℕ → ℕ} {w start : List ℕ} (P : EntryPre G m n a i x s tail d w start) where
+module _ {G : Graph} {m n a i x s tail : ℕ} {d : ℕ → ℕ} {w start stop : List ℕ} (P : EntryPre G m n a i x s tail d w start stop) where
   linked : whole G (link a (x / HALF)) ≡ true
-  linked = rw (P .is) (P .near .holds a i (P .here) (P .from) (P .to))
+  linked = rw (P .is) (P .left .holds a i (P .here) (P .from) (P .to))
 
   pub entry-b : x / HALF < G .n
   entry-b = end-below G (P .named .proper) a (x / HALF) linked .1
 
   pub entry-number : x % HALF ≡ linkNumber G (link a (x / HALF))
-  entry-number = rw (P .is) (P .near .number-is a i (P .here) (P .from) (P .to))
+  entry-number = rw (P .is) (P .left .number-is a i (P .here) (P .from) (P .to))
 
   pub entry-link : x % HALF < m
   entry-link = omega (arith, entry-number, number-lt G (link a (x / HALF)) linked, P .named .count)
@@ -57,14 +58,23 @@ module _ {G : Graph} {m n a i x s tail : ℕ} {d : ℕ → ℕ} {w start : List 
 
 -- ---- what seeding keeps and does: Met are the links looked at
 
+-- a link that is in no queue has a triangle left, so that the lists still have it
+abbrev pub Busy : ℕ → List ℕ → Type 0
+Busy m w = (y : ℕ) → y < m → cell w m STRENGTH y ≡ 0 → cell w m SUPPORT y ≢ 0
+
 pub record Seeding (G : Graph) (m s : ℕ) (Met : ℕ → Type 0) (tail : ℕ) (d : ℕ → ℕ) (w₀ w : List ℕ) : Type 0 where
   pub kept : Kept m FREE w₀ w
   pub supports : Same m (cell w₀ m SUPPORT) (cell w m SUPPORT)
+  pub busy : Busy m w
   pub queue : Waiting G m s Met 0 tail d w
 
 pub seeding-met : {G : Graph} {m s : ℕ} {Met Met′ : ℕ → Type 0} {tail : ℕ} {d : ℕ → ℕ} {w₀ w : List ℕ} → Seeding G m s Met tail d w₀ w
     → ((y : ℕ) → y < m → Met′ y → Met y) → Seeding G m s Met′ tail d w₀ w
-seeding-met S h = record { kept = S .kept; supports = S .supports; queue = queue-met (S .queue) (λ y l r. inl (h y l r)) }
+seeding-met S h = record { kept = S .kept; supports = S .supports; busy = S .busy; queue = queue-met (S .queue) (λ y l r. inl (h y l r)) }
+
+pub seeding-left : {G : Graph} {m n s : ℕ} {Met : ℕ → Type 0} {tail : ℕ} {d : ℕ → ℕ} {w₀ w start stop : List ℕ} → Named G m n w₀ → Left G m w₀ start stop
+    → Seeding G m s Met tail d w₀ w → Left G m w start stop
+seeding-left N L S = left-kept N L (S .kept .entries) (λ y l n z. n (S .supports y l ∙ z))
 
 module _ (m e s tail : ℕ) (w : List ℕ) (size : length w ≡ COLUMNS * m) (below : e < m) (room : tail < m) where
   pub push-supports : Same m (cell w m SUPPORT) (cell (store (store w m STRENGTH e (s + 2)) m QUEUE tail e) m SUPPORT)
@@ -87,51 +97,61 @@ module _ (m e s tail : ℕ) (w : List ℕ) (size : length w ≡ COLUMNS * m) (be
   pushed S z l cases = record {
     kept = kept-trans (S .kept) push-kept;
     supports = same-trans (S .supports) push-supports;
+    busy = λ y k t q. waits y k t q (same-or-not y e);
     queue =
         queue-looked (queue-push (S .queue) e (cell w m SUPPORT e) below z l (upd-same push-supports e below) push-strengths push-queue (λ y k. refl)) e (λ t.
         absurd (let q : s + 2 ≡ 0 = sym (push-strengths .here) ∙ t in omega arith)) cases;
   }
+    where
+      waits : (y : ℕ) → y < m → cell (store (store w m STRENGTH e (s + 2)) m QUEUE tail e) m STRENGTH y ≡ 0
+          → cell (store (store w m STRENGTH e (s + 2)) m QUEUE tail e) m SUPPORT y ≡ 0 → (y ≡ e) ⊎ (y ≢ e) → ⊥
+      waits y k t q (inl h) =
+          let o : s + 2 ≡ 0 = sym (push-strengths .here) ∙ ap (cell (store (store w m STRENGTH e (s + 2)) m QUEUE tail e) m STRENGTH) (sym h) ∙ t in
+          omega arith
+      waits y k t q (inr h) = S .busy y k (sym (push-strengths .else y k h) ∙ t) (sym (push-supports y k) ∙ q)
 
 -- ---- all entries of account a
 
-pub record AccountPre (G : Graph) (m n a s tail : ℕ) (d : ℕ → ℕ) (w start : List ℕ) : Type 0 where
+pub record AccountPre (G : Graph) (m n a s tail : ℕ) (d : ℕ → ℕ) (w start stop : List ℕ) : Type 0 where
   pub named : Named G m n w
-  pub near : Near G m w start
+  pub left : Left G m w start stop
   pub here : a < G .n
   pub small : s < noSupport
+  pub busy : Busy m w
   pub queue : Waiting G m s (Past G start a) 0 tail d w
 
-abbrev pub AccountAsks : ℕ → ℕ → ℕ → ℕ → ℕ → List ℕ → List ℕ → Type 0
-AccountAsks m n a s tail w start = (G : Graph) × (d : ℕ → ℕ) × AccountPre G m n a s tail d w start
+abbrev pub AccountAsks : ℕ → ℕ → ℕ → ℕ → ℕ → List ℕ → List ℕ → List ℕ → Type 0
+AccountAsks m n a s tail w start stop = (G : Graph) × (d : ℕ → ℕ) × AccountPre G m n a s tail d w start stop
 
-abbrev pub AccountTurns : ℕ → ℕ → ℕ → ℕ → ℕ → ℕ → ℕ → List ℕ → List ℕ → List ℕ → Type 0
-AccountTurns m n a i s tail₀ tail w₀ w start =
-    (G : Graph) (d : ℕ → ℕ) → AccountPre G m n a s tail₀ d w₀ start → Seeding G m s (Now G m w₀ start a i) tail d w₀ w
+abbrev pub AccountTurns : ℕ → ℕ → ℕ → ℕ → ℕ → ℕ → ℕ → List ℕ → List ℕ → List ℕ → List ℕ → Type 0
+AccountTurns m n a i s tail₀ tail w₀ w start stop =
+    (G : Graph) (d : ℕ → ℕ) → AccountPre G m n a s tail₀ d w₀ start stop → Seeding G m s (Now G m w₀ start a i) tail d w₀ w
 
-abbrev pub AccountGives : ℕ → ℕ → ℕ → ℕ → ℕ → ℕ → List ℕ → List ℕ → List ℕ → Type 0
-AccountGives m n a s tail₀ tail w₀ w start =
-    (G : Graph) (d : ℕ → ℕ) → AccountPre G m n a s tail₀ d w₀ start → Seeding G m s (Past G start (a + 1)) tail d w₀ w
+abbrev pub AccountGives : ℕ → ℕ → ℕ → ℕ → ℕ → ℕ → List ℕ → List ℕ → List ℕ → List ℕ → Type 0
+AccountGives m n a s tail₀ tail w₀ w start stop =
+    (G : Graph) (d : ℕ → ℕ) → AccountPre G m n a s tail₀ d w₀ start stop → Seeding G m s (Past G start (a + 1)) tail d w₀ w
 
-module _ {G : Graph} {m n a s tail₀ : ℕ} {d : ℕ → ℕ} {w₀ start : List ℕ} (P : AccountPre G m n a s tail₀ d w₀ start) where
+module _ {G : Graph} {m n a s tail₀ : ℕ} {d : ℕ → ℕ} {w₀ start stop : List ℕ} (P : AccountPre G m n a s tail₀ d w₀ start stop) where
   pub account-start : Seeding G m s (Now G m w₀ start a (startAt start a)) tail₀ d w₀ w₀
   account-start = record {
     kept = kept-none m FREE w₀;
     supports = λ y l. refl;
+    busy = P .busy;
     queue = queue-met (P .queue) (λ y l h. inl (Rattle.adjacency.specs.Centres.now-begin h));
   }
 
-  module _ {i tail : ℕ} {w : List ℕ} (S : Seeding G m s (Now G m w₀ start a i) tail d w₀ w) (from : startAt start a ≤ i) (to : i < startAt start (a + 1)) where
+  module _ {i tail : ℕ} {w : List ℕ} (S : Seeding G m s (Now G m w₀ start a i) tail d w₀ w) (from : startAt start a ≤ i) (to : i < startAt stop a) where
     pub account-fits : i < 2 * m
-    account-fits = omega (arith, P .near .fits a (P .here))
+    account-fits = left-fits (P .named) (P .left) (P .here) i from to
 
     pub account-size : length w ≡ COLUMNS * m
     account-size = S .kept .length-is ∙ P .named .size
 
     module _ {x : ℕ} (is : x ≡ entry w m i) where
-      pub account-entry : EntryPre G m n a i x s tail d w start
+      pub account-entry : EntryPre G m n a i x s tail d w start stop
       account-entry = record {
         named = named-kept (P .named) (S .kept);
-        near = near-kept (P .near) (S .kept);
+        left = seeding-left (P .named) (P .left) S;
         here = P .here;
         from = from;
         to = to;
@@ -149,11 +169,11 @@ module _ {G : Graph} {m n a s tail₀ : ℕ} {d : ℕ → ℕ} {w₀ start : Lis
         where
           go : Now G m w₀ start a i y ⊎ ((rank start (other w₀ m i) ≤ rank start a) × (y ≡ linkNumber G (link a (other w₀ m i)))) → Now G m w₀ start a i y ⊎ (y ≡ x % HALF)
           go (inl k) = inl k
-          go (inr k) = inr (k .1 ∙ sym (P .near .number-is a i (P .here) from to) ∙ ap (λ (z : ℕ). z % HALF) (sym x-is))
+          go (inr k) = inr (k .1 ∙ sym (P .left .number-is a i (P .here) from to) ∙ ap (λ (z : ℕ). z % HALF) (sym x-is))
 
       pub account-next : {r : ℕ} {w′ : List ℕ} → Seeded m a x s tail r w w′ start → Seeding G m s (Now G m w₀ start a (i + 1)) r d w₀ w′
       account-next (stays h rt wt) =
-          rw (rt, wt) (record { kept = S .kept; supports = S .supports; queue = queue-looked (S .queue) (x % HALF) h cases })
+          rw (rt, wt) (record { kept = S .kept; supports = S .supports; busy = S .busy; queue = queue-looked (S .queue) (x % HALF) h cases })
       account-next (elsewhere h rt wt) = rw (rt, wt) (seeding-met S (λ y l k. go (now-split k)))
         where
           h′ : rank start a < rank start (other w₀ m i)
@@ -165,47 +185,56 @@ module _ {G : Graph} {m n a s tail₀ : ℕ} {d : ℕ → ℕ} {w₀ start : Lis
       account-next (joins z l rt wt) =
           rw (rt, wt) (pushed m (x % HALF) s tail w account-size (entry-link account-entry) (entry-room account-entry z) S z l cases)
 
-  pub account-end : {i tail : ℕ} {w : List ℕ} → i ≡ startAt start (a + 1) → Seeding G m s (Now G m w₀ start a i) tail d w₀ w
+  pub account-end : {i tail : ℕ} {w : List ℕ} → i ≡ startAt stop a → Seeding G m s (Now G m w₀ start a i) tail d w₀ w
       → Seeding G m s (Past G start (a + 1)) tail d w₀ w
-  account-end {i} e S = seeding-met S (λ y l h. rw e (now-of-past (P .near) (P .here) h))
+  account-end {i} {tail} {w} e S = record { kept = S .kept; supports = S .supports; busy = S .busy; queue = queue-met (S .queue) (λ y l h. met y l h (same-or-not (cell w₀ m SUPPORT y) 0)) }
+    where
+      met : (y : ℕ) → y < m → Past G start (a + 1) y → (cell w₀ m SUPPORT y ≡ 0) ⊎ (cell w₀ m SUPPORT y ≢ 0)
+          → Now G m w₀ start a i y ⊎ (cell w m STRENGTH y ≡ 0 → s < cell w m SUPPORT y)
+      met y l h (inl z) = inr (λ t. absurd (S .busy y l t (S .supports y l ∙ z)))
+      met y l h (inr z) =
+          inl (rw e (now-of-past (λ c k q. P .left .finds a c (P .here) k (λ o. z (ap (cell w₀ m SUPPORT) (sym q) ∙ o))) h))
 
 -- ---- all accounts
 
-pub record SeedPre (G : Graph) (m n s : ℕ) (d : ℕ → ℕ) (w start : List ℕ) : Type 0 where
+pub record SeedPre (G : Graph) (m n s : ℕ) (d : ℕ → ℕ) (w start stop : List ℕ) : Type 0 where
   pub named : Named G m n w
-  pub near : Near G m w start
+  pub left : Left G m w start stop
   pub small : s < noSupport
+  pub busy : Busy m w
   pub queue : Waiting G m s None 0 0 d w
 
-abbrev pub SeedAsks : ℕ → ℕ → ℕ → List ℕ → List ℕ → Type 0
-SeedAsks m n s w start = (G : Graph) × (d : ℕ → ℕ) × SeedPre G m n s d w start
+abbrev pub SeedAsks : ℕ → ℕ → ℕ → List ℕ → List ℕ → List ℕ → Type 0
+SeedAsks m n s w start stop = (G : Graph) × (d : ℕ → ℕ) × SeedPre G m n s d w start stop
 
-abbrev pub SeedTurns : ℕ → ℕ → ℕ → ℕ → ℕ → List ℕ → List ℕ → List ℕ → Type 0
-SeedTurns m n a s tail w₀ w start = (G : Graph) (d : ℕ → ℕ) → SeedPre G m n s d w₀ start → Seeding G m s (Past G start a) tail d w₀ w
+abbrev pub SeedTurns : ℕ → ℕ → ℕ → ℕ → ℕ → List ℕ → List ℕ → List ℕ → List ℕ → Type 0
+SeedTurns m n a s tail w₀ w start stop = (G : Graph) (d : ℕ → ℕ) → SeedPre G m n s d w₀ start stop → Seeding G m s (Past G start a) tail d w₀ w
 
-abbrev pub SeedGives : ℕ → ℕ → ℕ → ℕ → List ℕ → List ℕ → List ℕ → Type 0
-SeedGives m n s tail w₀ w start = (G : Graph) (d : ℕ → ℕ) → SeedPre G m n s d w₀ start → Seeding G m s All tail d w₀ w
+abbrev pub SeedGives : ℕ → ℕ → ℕ → ℕ → List ℕ → List ℕ → List ℕ → List ℕ → Type 0
+SeedGives m n s tail w₀ w start stop = (G : Graph) (d : ℕ → ℕ) → SeedPre G m n s d w₀ start stop → Seeding G m s All tail d w₀ w
 
-module _ {G : Graph} {m n s : ℕ} {d : ℕ → ℕ} {w₀ start : List ℕ} (P : SeedPre G m n s d w₀ start) where
+module _ {G : Graph} {m n s : ℕ} {d : ℕ → ℕ} {w₀ start stop : List ℕ} (P : SeedPre G m n s d w₀ start stop) where
   pub seed-start : Seeding G m s (Past G start 0) 0 d w₀ w₀
   seed-start = record {
     kept = kept-none m FREE w₀;
     supports = λ y l. refl;
+    busy = P .busy;
     queue = queue-met (P .queue) (λ y l h. absurd (omega (arith, h .early)));
   }
 
   module _ {a tail : ℕ} {w : List ℕ} (S : Seeding G m s (Past G start a) tail d w₀ w) where
-    pub seed-account : a < n → AccountPre G m n a s tail d w start
+    pub seed-account : a < n → AccountPre G m n a s tail d w start stop
     seed-account l = record {
       named = named-kept (P .named) (S .kept);
-      near = near-kept (P .near) (S .kept);
+      left = seeding-left (P .named) (P .left) S;
       here = omega (arith, P .named .accounts);
       small = P .small;
+      busy = S .busy;
       queue = S .queue;
     }
 
     pub seed-next : {r : ℕ} {w′ : List ℕ} → Seeding G m s (Past G start (a + 1)) r d w w′ → Seeding G m s (Past G start (a + 1)) r d w₀ w′
-    seed-next T = record { kept = kept-trans (S .kept) (T .kept); supports = same-trans (S .supports) (T .supports); queue = T .queue }
+    seed-next T = record { kept = kept-trans (S .kept) (T .kept); supports = same-trans (S .supports) (T .supports); busy = T .busy; queue = T .queue }
 
     pub seed-end : n ≤ a → Seeding G m s All tail d w₀ w
     seed-end la = seeding-met S (λ y l h. past-all start (P .named) a la y l)

@@ -35,22 +35,23 @@ fn seed_entry(
     push(w, m, e, s, tail)
 }
 
-// All entries of account a.
+// All entries that the list of account a has left.
 fn seed_account(
     w: &mut [u32],
     m: usize,
     n: usize,
     start: &[u32],
+    stop: &[u32],
     a: usize,
     s: usize,
     from: usize,
 ) -> usize
-    requires { ⌜ AccountAsks m n a s from (now w) (now start) ⌝ }
-    ensures { λ r. ⌜ AccountGives m n a s from r (now (w .entry)) (now (w .exit)) (now (start .entry)) ⌝ }
+    requires { ⌜ AccountAsks m n a s from (now w) (now start) (now stop) ⌝ }
+    ensures { λ r. ⌜ AccountGives m n a s from r (now (w .entry)) (now (w .exit)) (now (start .entry)) (now (stop .entry)) ⌝ }
 {
     let mut tail = from;
     let mut i = start[a] as usize;
-    let end = start[a + 1] as usize;
+    let end = stop[a] as usize;
     while i < end {
         let x = near(w, m, i);
         tail = seed_entry(w, m, start, a, x, s, tail);
@@ -60,14 +61,14 @@ fn seed_account(
 }
 
 // All links of support s or less that are in no queue. Gives how many.
-pub fn seed(w: &mut [u32], m: usize, n: usize, start: &[u32], s: usize) -> usize
-    requires { ⌜ SeedAsks m n s (now w) (now start) ⌝ }
-    ensures { λ r. ⌜ SeedGives m n s r (now (w .entry)) (now (w .exit)) (now (start .entry)) ⌝ }
+pub fn seed(w: &mut [u32], m: usize, n: usize, start: &[u32], stop: &[u32], s: usize) -> usize
+    requires { ⌜ SeedAsks m n s (now w) (now start) (now stop) ⌝ }
+    ensures { λ r. ⌜ SeedGives m n s r (now (w .entry)) (now (w .exit)) (now (start .entry)) (now (stop .entry)) ⌝ }
 {
     let mut tail: usize = 0;
     let mut a: usize = 0;
     while a < n {
-        tail = seed_account(w, m, n, start, a, s, tail);
+        tail = seed_account(w, m, n, start, stop, a, s, tail);
         a += 1;
     }
     tail

@@ -2,6 +2,9 @@
 pub mod Queue
 pub mod State
 pub mod Level
+pub mod Left
+pub mod Marks
+pub mod Shrink
 pub mod Take
 pub mod Turn
 pub mod Centre

@@ -11,7 +11,6 @@ use borrow.Author.Tests.{ne-eqb}
 use Rattle.truss.specs.Graph.{Graph, linkAt}
 use Rattle.truss.specs.Strength.{strength}
 use Rattle.laws.proofs.Numbers.{same-or-not, less-or-not}
-use Rattle.laws.proofs.ProperLinks.{at-member}
 use Rattle.columns.specs.Columns.{cell, KEY, NEAR, STRENGTH, QUEUE, COLUMNS}
 use Rattle.columns.specs.Wiping.{Cleaned}
 use Rattle.adjacency.specs.State.{Named, named-kept, near-kept}
@@ -60,9 +59,6 @@ abbrev pub WorkGives : ℕ → ℕ → ℕ → List ℕ → List ℕ → List �
 WorkGives m n r w w′ start mark = (G : Graph) → WorkPre G m n w start mark → Worked G m r w w′
 
 module _ {G : Graph} {m n : ℕ} {w start₀ mark₀ : List ℕ} (P : WorkPre G m n w start₀ mark₀) where
-  work-here : 0 < G .n
-  work-here = omega (arith, P .named .proper .below (linkAt G 0) (at-member G (P .named .proper) 0 (omega (arith, P .some, P .named .count))))
-
   module _ {w₁ start : List ℕ} (L : ListsDone G m w w₁ start) where
     N₁ : Named G m n w₁
     N₁ = named-keyed (P .named) (L .keyed)
@@ -81,14 +77,13 @@ module _ {G : Graph} {m n : ℕ} {w start₀ mark₀ : List ℕ} (P : WorkPre G 
         named = named-kept N₁ (T .kept);
         near = near-kept (L .near) (T .kept);
         marks = T .marks;
-        here = work-here;
         triangles = T .triangles;
       }
 
       pub work-done : {w₃ mark₃ : List ℕ} → PeelDone G m n w₂ w₃ mark₃ → Worked G m r w w₃
       work-done D = record {
-        length-is = D .kept .length-is ∙ T .kept .length-is ∙ L .keyed .length-is;
-        keys = λ y l. D .kept .keys y l ∙ T .kept .keys y l ∙ L .keyed .keys y l;
+        length-is = D .held .length-is ∙ T .kept .length-is ∙ L .keyed .length-is;
+        keys = λ y l. D .held .keys y l ∙ T .kept .keys y l ∙ L .keyed .keys y l;
         strengths = D .strengths;
         made = T .made;
       }

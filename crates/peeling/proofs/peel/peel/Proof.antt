@@ -1,20 +1,22 @@
 -- `peeling::peel::peel` meets its contract. Assumes nothing.
-use Rattle.peeling.specs.Peel.{peel-levels, peel-done}
+use mathlib.Core.Path.{sym}
+use native.Mathlib.Omega.{arith}
+use lib.Seq.{length-take-le}
 use borrow.Author.Needs.{needs}
 use Rattle.peeling.proofs.peel.peel.Statement.{statement}
 use Rattle.peeling.proofs.peel.peel.Tie as tie
 
-bare-requires : tie.Need-bare-requires
-bare-requires c κs = search needs
+room-requires : tie.Need-room-requires
+room-requires c κs = search needs
 
-peel-levels-requires : tie.Need-peel-levels-requires
-peel-levels-requires c κs = (c .before .before .before .before .before .before .before .before .before .pre .0, peel-levels (c .before .before .before .before .before .before .before .before .before .pre .1) (c .before .before .before .before .bare .ensures))
+array-borrow-prefix-stop : tie.Need-array-borrow-prefix-stop
+array-borrow-prefix-stop c = search needs
 
-wipe-requires : tie.Need-wipe-requires
-wipe-requires c κs = search needs
+slice-aggregate-peel-in : tie.Need-slice-aggregate-peel-in
+slice-aggregate-peel-in c = sym (length-take-le _ _ (omega (arith, c .before .before .before .before .before .before .pre .1 .named .small)))
 
-zero-requires : tie.Need-zero-requires
-zero-requires c κs = search needs
+peel-in-requires : tie.Need-peel-in-requires
+peel-in-requires c κs = (c .before .before .before .before .before .before .before .pre .0, c .before .before .before .before .before .before .before .pre .1, length-take-le _ _ (omega (arith, c .before .before .before .before .before .before .before .pre .1 .named .small)))
 
 same-length : tie.Need-same-length
 same-length c = search needs
@@ -23,16 +25,16 @@ same-length-2 : tie.Need-same-length-2
 same-length-2 c = search needs
 
 returns : tie.Need-returns
-returns c = λ G P. peel-done P (c .before .before .before .before .before .before .before .before .before .before .before .before .before .before .before .before .before .bare .ensures) (c .before .before .before .before .before .before .before .before .before .before .before .before .peel-levels .ensures G (peel-levels P (c .before .before .before .before .before .before .before .before .before .before .before .before .before .before .before .before .before .bare .ensures))) (c .before .before .before .before .before .before .wipe .ensures) (c .before .before .zero .ensures)
+returns c = c .before .before .before .before .before .peel-in .ensures
 
 pub peel-spec : {M : Type 1} → statement M
 peel-spec =
     tie.close
     (tie.spec
-    bare-requires
-    peel-levels-requires
-    wipe-requires
-    zero-requires
+    room-requires
+    array-borrow-prefix-stop
+    slice-aggregate-peel-in
+    peel-in-requires
     same-length
     same-length-2
     returns)
