@@ -11,7 +11,7 @@ use columns::put;
 use unions::roots::find;
 
 // Marks the root of link e, if its strength is k.
-pub fn mark_one(w: &mut [u32], m: usize, e: usize, k: usize)
+fn mark_one(w: &mut [u32], m: usize, e: usize, k: usize)
     requires { ⌜ MarkAsks m e k (now w) ⌝ }
     ensures { λ _. ⌜ MarkGives m e k (now (w .entry)) (now (w .exit)) ⌝ }
 {
@@ -23,7 +23,7 @@ pub fn mark_one(w: &mut [u32], m: usize, e: usize, k: usize)
 }
 
 // Marks the roots of the links of strength k.
-pub fn mark_roots(w: &mut [u32], m: usize, k: usize)
+fn mark_roots(w: &mut [u32], m: usize, k: usize)
     requires { ⌜ MarksAsks m k (now w) ⌝ }
     ensures { λ _. ⌜ MarksGives m k m (now (w .entry)) (now (w .exit)) ⌝ }
 {
@@ -35,7 +35,7 @@ pub fn mark_roots(w: &mut [u32], m: usize, k: usize)
 }
 
 // A marked root r is the least link of the next group, number g. Gives the number of groups.
-pub fn number_one(w: &mut [u32], m: usize, r: usize, k: usize, g: usize) -> usize
+fn number_one(w: &mut [u32], m: usize, r: usize, k: usize, g: usize) -> usize
     requires { ⌜ NumberAsks m r k g (now w) ⌝ }
     ensures { λ c. ⌜ NumberGives m r k g c (now (w .entry)) (now (w .exit)) ⌝ }
 {
@@ -50,7 +50,7 @@ pub fn number_one(w: &mut [u32], m: usize, r: usize, k: usize, g: usize) -> usiz
 }
 
 // The groups of strength k: the marked roots, rising, numbered on from `from`.
-pub fn number_roots(w: &mut [u32], m: usize, k: usize, from: usize) -> usize
+fn number_roots(w: &mut [u32], m: usize, k: usize, from: usize) -> usize
     requires { ⌜ NumbersAsks m k from (now w) ⌝ }
     ensures { λ c. ⌜ NumbersGives m k m from c (now (w .entry)) (now (w .exit)) ⌝ }
 {
@@ -64,7 +64,7 @@ pub fn number_roots(w: &mut [u32], m: usize, k: usize, from: usize) -> usize
 }
 
 // The own group of link e, if its strength is k.
-pub fn name_one(w: &mut [u32], m: usize, e: usize, k: usize)
+fn name_one(w: &mut [u32], m: usize, e: usize, k: usize)
     requires { ⌜ NameAsks m e k (now w) ⌝ }
     ensures { λ _. ⌜ NameGives m e k (now (w .entry)) (now (w .exit)) ⌝ }
 {
@@ -76,7 +76,8 @@ pub fn name_one(w: &mut [u32], m: usize, e: usize, k: usize)
     put(w, m, 8, e, g);
 }
 
-pub fn name_groups(w: &mut [u32], m: usize, k: usize)
+// The own groups of the links of strength k.
+fn name_groups(w: &mut [u32], m: usize, k: usize)
     requires { ⌜ NamesAsks m k (now w) ⌝ }
     ensures { λ _. ⌜ NamesGives m k m (now (w .entry)) (now (w .exit)) ⌝ }
 {
@@ -88,7 +89,7 @@ pub fn name_groups(w: &mut [u32], m: usize, k: usize)
 }
 
 // Group g, if it has no parent yet, gets the group of strength k that holds its least link.
-pub fn adopt_one(w: &mut [u32], m: usize, k: usize, g: usize)
+fn adopt_one(w: &mut [u32], m: usize, k: usize, g: usize)
     requires { ⌜ AdoptAsks m k g (now w) ⌝ }
     ensures { λ _. ⌜ AdoptGives m k g (now (w .entry)) (now (w .exit)) ⌝ }
 {
@@ -104,7 +105,8 @@ pub fn adopt_one(w: &mut [u32], m: usize, k: usize, g: usize)
     put(w, m, 12, g, h);
 }
 
-pub fn adopt(w: &mut [u32], m: usize, k: usize, count: usize)
+// The groups below `count` that have no parent get theirs, if it has strength k.
+fn adopt(w: &mut [u32], m: usize, k: usize, count: usize)
     requires { ⌜ AdoptsAsks m k count (now w) ⌝ }
     ensures { λ _. ⌜ AdoptsGives m k count count (now (w .entry)) (now (w .exit)) ⌝ }
 {

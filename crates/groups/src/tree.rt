@@ -18,7 +18,7 @@ pub struct Sizes {
 }
 
 // All levels, by falling weight.
-pub fn levels(w: &mut [u32], m: usize, n: usize, row: &[u32], mark: &mut [u32]) -> Sizes
+fn levels(w: &mut [u32], m: usize, n: usize, row: &[u32], mark: &mut [u32]) -> Sizes
     requires { ⌜ LevelsAsks m n (now w) (now row) (now mark) ⌝ }
     ensures { λ r. ⌜ LevelsGives m n (r .joins) (r .groups) (now (w .entry)) (now (w .exit)) (now (row .entry)) (now (mark .entry)) ⌝ }
 {
@@ -37,7 +37,7 @@ pub fn levels(w: &mut [u32], m: usize, n: usize, row: &[u32], mark: &mut [u32]) 
 }
 
 // With account-sized memory lent.
-pub fn work(w: &mut [u32], m: usize, n: usize, row: &mut [u32], mark: &mut [u32]) -> Sizes
+fn work(w: &mut [u32], m: usize, n: usize, row: &mut [u32], mark: &mut [u32]) -> Sizes
     requires { ⌜ WorkAsks m n (now w) (now row) (now mark) ⌝ }
     ensures { λ r. ⌜ WorkGives m n (r .joins) (r .groups) (now (w .entry)) (now (w .exit)) (now (row .entry)) (now (mark .entry)) ⌝ }
 {
@@ -47,7 +47,7 @@ pub fn work(w: &mut [u32], m: usize, n: usize, row: &mut [u32], mark: &mut [u32]
 }
 
 // The entries of column c from `from` on at 0.
-pub fn wipe(w: &mut [u32], m: usize, c: usize, from: usize)
+fn wipe(w: &mut [u32], m: usize, c: usize, from: usize)
     requires { ⌜ length (now w) ≡ 16 * m ⌝ }
     requires { ⌜ c < 16 ⌝ }
     requires { ⌜ from ≤ m ⌝ }
@@ -62,7 +62,7 @@ pub fn wipe(w: &mut [u32], m: usize, c: usize, from: usize)
 }
 
 // Columns from .. until at 0.
-pub fn clear(w: &mut [u32], m: usize, from: usize, until: usize)
+fn clear(w: &mut [u32], m: usize, from: usize, until: usize)
     requires { ⌜ length (now w) ≡ 16 * m ⌝ }
     requires { ⌜ from ≤ until ⌝ }
     requires { ⌜ until ≤ 16 ⌝ }
@@ -77,7 +77,7 @@ pub fn clear(w: &mut [u32], m: usize, from: usize, until: usize)
 }
 
 // The unused ends of the columns of joins and groups at 0.
-pub fn wipe_ends(w: &mut [u32], m: usize, joins: usize, groups: usize)
+fn wipe_ends(w: &mut [u32], m: usize, joins: usize, groups: usize)
     requires { ⌜ length (now w) ≡ 16 * m ⌝ }
     requires { ⌜ joins ≤ m ⌝ }
     requires { ⌜ groups ≤ m ⌝ }
@@ -92,7 +92,7 @@ pub fn wipe_ends(w: &mut [u32], m: usize, joins: usize, groups: usize)
 }
 
 // All that is no result at 0.
-pub fn tidy(w: &mut [u32], m: usize, joins: usize, groups: usize)
+fn tidy(w: &mut [u32], m: usize, joins: usize, groups: usize)
     requires { ⌜ length (now w) ≡ 16 * m ⌝ }
     requires { ⌜ joins ≤ m ⌝ }
     requires { ⌜ groups ≤ m ⌝ }
@@ -105,7 +105,8 @@ pub fn tidy(w: &mut [u32], m: usize, joins: usize, groups: usize)
     clear(w, m, 14, 16);
 }
 
-pub fn room() -> [u32; 1025] {
+// An entry for each account, and one more.
+fn room() -> [u32; 1025] {
     [0u32; 1025]
 }
 

@@ -7,12 +7,14 @@ use crate::roots::find;
 use columns::get;
 use columns::put;
 
+// The lesser of two numbers.
 pub fn lesser(a: usize, b: usize) -> usize
     ensures { λ r. ⌜ r ≡ min a b ⌝ }
 {
     if a < b { a } else { b }
 }
 
+// The greater of two numbers.
 pub fn greater(a: usize, b: usize) -> usize
     ensures { λ r. ⌜ r ≡ max a b ⌝ }
 {
@@ -20,16 +22,7 @@ pub fn greater(a: usize, b: usize) -> usize
 }
 
 // The greater of the roots a and b gets the lesser for a parent; the join of e and f is the next of the forest.
-pub fn unite(
-    w: &mut [u32],
-    m: usize,
-    a: usize,
-    b: usize,
-    e: usize,
-    f: usize,
-    k: usize,
-    joins: usize,
-)
+fn unite(w: &mut [u32], m: usize, a: usize, b: usize, e: usize, f: usize, k: usize, joins: usize)
     requires { ⌜ UnitePre m a b e f k joins (now w) ⌝ }
     ensures { λ _. ⌜ now (w .exit) ≡ united m a b e f k joins (now (w .entry)) ⌝ }
 {

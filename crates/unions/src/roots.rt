@@ -7,7 +7,7 @@ use columns::get;
 use columns::put;
 
 // Hangs x, whose parent is p, under p's parent, and gives that.
-pub fn halve(w: &mut [u32], m: usize, x: usize, p: usize) -> usize
+fn halve(w: &mut [u32], m: usize, x: usize, p: usize) -> usize
     requires { ⌜ HalvePre m x p (now w) ⌝ }
     ensures { λ r. ⌜ Halved m x r (now (w .entry)) (now (w .exit)) ⌝ }
 {
