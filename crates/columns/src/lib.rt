@@ -3,7 +3,7 @@ ghost use Prim.Native.Nat.{_+_, _*_, _<_, _≤_};
 ghost use mathlib.Core.Path.{_≡_};
 ghost use lib.ListN.{length};
 ghost use Rattle.columns.specs.Columns.{cell, store, entry, storeEntry, COLUMNS, mostLinks, entryBound};
-ghost use Rattle.columns.specs.Wiping.{Wiping, Cleaned};
+ghost use Rattle.columns.specs.Wiping.{Wiped, Wiping, Cleaned};
 
 // What each column holds while strengths are computed. Columns 1 and 2 are one, of two entries for each link.
 pub const KEY: usize = 0;
@@ -67,6 +67,21 @@ pub fn put_near(w: &mut [u32], m: usize, i: usize, x: usize)
     w[m + i] = x as u32;
 }
 
+// The entries of column c from `from` on at 0.
+pub fn wipe_from(w: &mut [u32], m: usize, c: usize, from: usize)
+    requires { ⌜ length (now w) ≡ COLUMNS * m ⌝ }
+    requires { ⌜ c < COLUMNS ⌝ }
+    requires { ⌜ from ≤ m ⌝ }
+    requires { ⌜ m ≤ mostLinks ⌝ }
+    ensures { λ _. ⌜ Wiped m c from m (now (w .entry)) (now (w .exit)) ⌝ }
+{
+    let mut e = from;
+    while e < m {
+        put(w, m, c, e, 0);
+        e += 1;
+    }
+}
+
 // Column c at 0.
 pub fn wipe(w: &mut [u32], m: usize, c: usize)
     requires { ⌜ length (now w) ≡ COLUMNS * m ⌝ }
@@ -74,11 +89,7 @@ pub fn wipe(w: &mut [u32], m: usize, c: usize)
     requires { ⌜ m ≤ mostLinks ⌝ }
     ensures { λ _. ⌜ Wiping m c m (now (w .entry)) (now (w .exit)) ⌝ }
 {
-    let mut e: usize = 0;
-    while e < m {
-        put(w, m, c, e, 0);
-        e += 1;
-    }
+    wipe_from(w, m, c, 0);
 }
 
 // The columns from .. until at 0.

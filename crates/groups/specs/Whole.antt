@@ -19,61 +19,9 @@ use Rattle.laws.proofs.Tree.{group-row-at}
 use Rattle.laws.proofs.Sides.{InOrder}
 use Rattle.columns.specs.Columns.{cell, store}
 use Rattle.laws.proofs.Numbers.{same-or-not, less-or-not}
-use Rattle.columns.specs.Laws.{stored as stored-cell, kept-entry, kept-column, length-store}
+use Rattle.columns.specs.Wiping.{Wiped, Cleaned}
 use Rattle.unions.specs.State.{Given, taken, taken-length, joinAt}
 use Rattle.groups.specs.Tree.{TreeDone, WorkPre, given-fits}
-
--- ---- the entries from `from` up to e of column c at 0
-
-pub record Wiped (m c from e : ℕ) (w w′ : List ℕ) : Type 0 where
-  pub length-is : length w′ ≡ length w
-  pub zero : (y : ℕ) → from ≤ y → y < e → cell w′ m c y ≡ 0
-  pub before : (y : ℕ) → y < from → cell w′ m c y ≡ cell w m c y
-  pub others : (d y : ℕ) → d ≢ c → y < m → cell w′ m d y ≡ cell w m d y
-
-pub wiped-none : (m c from : ℕ) (w : List ℕ) → Wiped m c from from w w
-wiped-none m c from w = record { length-is = refl; zero = λ y l k. absurd (omega arith); before = λ y l. refl; others = λ d y n l. refl }
-
-pub wiped-more : {m c from e : ℕ} {w₀ w w′ : List ℕ} → Wiped m c from e w₀ w → c < 16 → from ≤ e → e < m → length w₀ ≡ 16 * m → w′ ≡ store w m c e 0 → Wiped m c from (e + 1) w₀ w′
-wiped-more {m} {c} {from} {e} {w₀} {w} {w′} W cl fl el size put = rw put (record {
-  length-is = length-store w m c e 0 ∙ W .length-is;
-  zero = λ y l k. go y l k (same-or-not y e);
-  before = λ y l. kept-entry w m c e y 0 (omega arith) ∙ W .before y l;
-  others = λ d y n l. kept-column w m c d e y 0 (λ q. n (sym q)) el l ∙ W .others d y n l;
-})
-  where
-    go : (y : ℕ) → from ≤ y → y < e + 1 → (y ≡ e) ⊎ (y ≢ e) → cell (store w m c e 0) m c y ≡ 0
-    go y l k (inl q) = rw q (stored-cell w m c e 0 cl el (W .length-is ∙ size))
-    go y l k (inr q) = kept-entry w m c e y 0 q ∙ W .zero y l (omega (arith, k, q))
-
-pub wiped-all : {m c from e : ℕ} {w w′ : List ℕ} → e ≡ m → Wiped m c from e w w′ → Wiped m c from m w w′
-wiped-all {m} {c} {from} {e} {w} {w′} q W = subst (λ (z : ℕ). Wiped m c from z w w′) q W
-
--- ---- columns from `from` up to c at 0
-
-pub record Cleared (m from c : ℕ) (w w′ : List ℕ) : Type 0 where
-  pub length-is : length w′ ≡ length w
-  pub zero : (d y : ℕ) → from ≤ d → d < c → y < m → cell w′ m d y ≡ 0
-  pub below : (d y : ℕ) → d < from → y < m → cell w′ m d y ≡ cell w m d y
-  pub above : (d y : ℕ) → c ≤ d → y < m → cell w′ m d y ≡ cell w m d y
-
-pub cleared-none : (m from : ℕ) (w : List ℕ) → Cleared m from from w w
-cleared-none m from w = record { length-is = refl; zero = λ d y l k h. absurd (omega arith); below = λ d y l k. refl; above = λ d y l k. refl }
-
-pub cleared-more : {m from c : ℕ} {w₀ w w′ : List ℕ} → from ≤ c → Cleared m from c w₀ w → Wiped m c 0 m w w′ → Cleared m from (c + 1) w₀ w′
-cleared-more {m} {from} {c} {w₀} {w} {w′} fc C W = record {
-  length-is = W .length-is ∙ C .length-is;
-  zero = λ d y l k h. go d y l k h (same-or-not d c);
-  below = λ d y l k. W .others d y (omega arith) k ∙ C .below d y l k;
-  above = λ d y l k. W .others d y (omega arith) k ∙ C .above d y (omega arith) k;
-}
-  where
-    go : (d y : ℕ) → from ≤ d → d < c + 1 → y < m → (d ≡ c) ⊎ (d ≢ c) → cell w′ m d y ≡ 0
-    go d y l k h (inl q) = rw q (W .zero y (omega arith) h)
-    go d y l k h (inr q) = W .others d y q h ∙ C .zero d y l (omega (arith, k, q)) h
-
-pub cleared-all : {m from c until : ℕ} {w w′ : List ℕ} → c ≡ until → Cleared m from c w w′ → Cleared m from until w w′
-cleared-all {m} {from} {c} {until} {w} {w′} q C = subst (λ (z : ℕ). Cleared m from z w w′) q C
 
 -- ---- the unused ends of the columns of joins (9, 10) and of groups (11, 12, 13) at 0
 
@@ -137,7 +85,7 @@ pub record Tidied (m j c : ℕ) (w w′ : List ℕ) : Type 0 where
   pub middle : (d y : ℕ) → 5 ≤ d → d < 8 → y < m → cell w′ m d y ≡ 0
   pub high : (d y : ℕ) → 14 ≤ d → d < 16 → y < m → cell w′ m d y ≡ 0
 
-pub tidied : {m j c : ℕ} {w w₁ w₂ w₃ w₄ : List ℕ} → Ends m j c w w₁ → Cleared m 1 4 w₁ w₂ → Cleared m 5 8 w₂ w₃ → Cleared m 14 16 w₃ w₄ → Tidied m j c w w₄
+pub tidied : {m j c : ℕ} {w w₁ w₂ w₃ w₄ : List ℕ} → Ends m j c w w₁ → Cleaned m 1 4 w₁ w₂ → Cleaned m 5 8 w₂ w₃ → Cleaned m 14 16 w₃ w₄ → Tidied m j c w w₄
 tidied {m} {j} {c} {w} {w₁} {w₂} {w₃} {w₄} E A B C = record {
   length-is = C .length-is ∙ B .length-is ∙ A .length-is ∙ E .length-is;
   kept = λ d y h l. go d y h l;

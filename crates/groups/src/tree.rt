@@ -3,9 +3,10 @@ ghost use mathlib.Core.Path.{_≡_};
 ghost use Prim.Native.Nat.{_+_, _*_, _<_, _≤_};
 ghost use lib.ListN.{length};
 ghost use Rattle.groups.specs.Tree.{LevelsAsks, LevelsGives, WorkAsks, WorkGives};
-ghost use Rattle.groups.specs.Whole.{Wiped, Cleared, Ends, Tidied, TreeAsks, TreeGives};
+ghost use Rattle.groups.specs.Whole.{Ends, Tidied, TreeAsks, TreeGives};
 use crate::level::group;
-use columns::put;
+use columns::wipe_all;
+use columns::wipe_from;
 use forest::level::level;
 use forest::level::prepare;
 use forest::level::top;
@@ -46,36 +47,6 @@ fn work(w: &mut [u32], m: usize, n: usize, row: &mut [u32], mark: &mut [u32]) ->
     levels(w, m, n, row, mark)
 }
 
-// The entries of column c from `from` on at 0.
-fn wipe(w: &mut [u32], m: usize, c: usize, from: usize)
-    requires { ⌜ length (now w) ≡ 16 * m ⌝ }
-    requires { ⌜ c < 16 ⌝ }
-    requires { ⌜ from ≤ m ⌝ }
-    requires { ⌜ m ≤ 65535 ⌝ }
-    ensures { λ _. ⌜ Wiped m c from m (now (w .entry)) (now (w .exit)) ⌝ }
-{
-    let mut e = from;
-    while e < m {
-        put(w, m, c, e, 0);
-        e += 1;
-    }
-}
-
-// Columns from .. until at 0.
-fn clear(w: &mut [u32], m: usize, from: usize, until: usize)
-    requires { ⌜ length (now w) ≡ 16 * m ⌝ }
-    requires { ⌜ from ≤ until ⌝ }
-    requires { ⌜ until ≤ 16 ⌝ }
-    requires { ⌜ m ≤ 65535 ⌝ }
-    ensures { λ _. ⌜ Cleared m from until (now (w .entry)) (now (w .exit)) ⌝ }
-{
-    let mut c = from;
-    while c < until {
-        wipe(w, m, c, 0);
-        c += 1;
-    }
-}
-
 // The unused ends of the columns of joins and groups at 0.
 fn wipe_ends(w: &mut [u32], m: usize, joins: usize, groups: usize)
     requires { ⌜ length (now w) ≡ 16 * m ⌝ }
@@ -84,11 +55,11 @@ fn wipe_ends(w: &mut [u32], m: usize, joins: usize, groups: usize)
     requires { ⌜ m ≤ 65535 ⌝ }
     ensures { λ _. ⌜ Ends m joins groups (now (w .entry)) (now (w .exit)) ⌝ }
 {
-    wipe(w, m, 9, joins);
-    wipe(w, m, 10, joins);
-    wipe(w, m, 11, groups);
-    wipe(w, m, 12, groups);
-    wipe(w, m, 13, groups);
+    wipe_from(w, m, 9, joins);
+    wipe_from(w, m, 10, joins);
+    wipe_from(w, m, 11, groups);
+    wipe_from(w, m, 12, groups);
+    wipe_from(w, m, 13, groups);
 }
 
 // All that is no result at 0.
@@ -100,9 +71,9 @@ fn tidy(w: &mut [u32], m: usize, joins: usize, groups: usize)
     ensures { λ _. ⌜ Tidied m joins groups (now (w .entry)) (now (w .exit)) ⌝ }
 {
     wipe_ends(w, m, joins, groups);
-    clear(w, m, 1, 4);
-    clear(w, m, 5, 8);
-    clear(w, m, 14, 16);
+    wipe_all(w, m, 1, 4);
+    wipe_all(w, m, 5, 8);
+    wipe_all(w, m, 14, 16);
 }
 
 // An entry for each account, and one more.

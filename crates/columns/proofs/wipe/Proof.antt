@@ -1,48 +1,20 @@
 -- `columns::wipe` meets its contract. Assumes nothing.
-use Rattle.columns.specs.Wiping.{Wiping, wiping-none, wiping-more, wiping-all}
-use Prim.Native.Nat.{_-_, _≤_}
-use native.Mathlib.Omega.{arith}
-use mathlib.Core.Path.{_∙_}
+use Rattle.columns.specs.Wiping.{wiping-whole}
+use borrow.Author.Needs.{needs}
 use Rattle.columns.proofs.wipe.Statement.{statement}
 use Rattle.columns.proofs.wipe.Tie as tie
+use Rattle.columns.proofs.wipe.Reads as reads
+use Rattle.columns.proofs.wipe.Lts as lts
+use Rattle.columns.proofs.wipe_from.Reads as wipe-from-reads
 
-abbrev Inv-loop : tie.InvT-loop
-Inv-loop w₀ m c e₀ w e = (e ≤ m) × Wiping m c e w₀ w
+wipe-from-requires : tie.Need-wipe-from-requires
+wipe-from-requires c κs = search needs
 
-abbrev μ-loop : tie.MeasureT-loop
-μ-loop w₀ m c e₀ w e = m - e
+same-length : tie.Need-same-length
+same-length c = search needs
 
-loop-holds : tie.Need-loop-holds Inv-loop μ-loop
-loop-holds c = (omega arith, wiping-none _ _ _)
-
-put-requires : tie.Need-put-requires Inv-loop μ-loop
-put-requires c κs = (c .before .before .before .before .pre .1 .0, (c .before .loop-test .taken, (omega arith, c .before .before .loop .inv .1 .length-is ∙ c .before .before .before .before .pre .0)))
-
-add-e : tie.Need-add-e Inv-loop μ-loop
-add-e c = omega (arith, c .before .before .before .before .loop-test .taken, c .before .before .before .before .before .before .before .pre .1 .1)
-
-loop-less : tie.Need-loop-less Inv-loop μ-loop
-loop-less c = omega (arith, c .before .before .before .before .loop-test .taken)
-
-loop-again : tie.Need-loop-again Inv-loop μ-loop
-loop-again c = (omega (arith, c .before .before .before .before .loop-test .taken), wiping-more (c .before .before .before .before .before .loop .inv .1) (c .before .before .before .before .before .before .before .pre .1 .0) (c .before .before .before .before .loop-test .taken) (c .before .before .before .before .before .before .before .pre .0) (c .before .before .put .ensures))
-
-same-length : tie.Need-same-length Inv-loop μ-loop
-same-length c = c .before .loop .inv .1 .length-is
-
-returns : tie.Need-returns Inv-loop μ-loop
-returns c = wiping-all (omega (arith, c .loop-test .left, c .before .loop .inv .0)) (c .before .loop .inv .1)
+returns : tie.Need-returns
+returns c = wiping-whole (c .before .before .wipe-from .ensures)
 
 pub wipe-spec : {M : Type 1} → statement M
-wipe-spec =
-    tie.close
-    (tie.spec
-    Inv-loop
-    μ-loop
-    loop-holds
-    put-requires
-    add-e
-    loop-less
-    loop-again
-    same-length
-    returns)
+wipe-spec = tie.close (tie.spec wipe-from-requires same-length returns)

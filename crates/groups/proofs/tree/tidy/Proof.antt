@@ -9,7 +9,7 @@ use Rattle.groups.proofs.tree.tidy.Statement.{statement}
 use Rattle.groups.proofs.tree.tidy.Tie as tie
 use Rattle.groups.proofs.tree.tidy.Reads as reads
 use Rattle.groups.proofs.tree.tidy.Lts as lts
-use Rattle.groups.proofs.tree.clear.Reads as clear-reads
+use Rattle.columns.proofs.wipe_all.Reads as wipe-all-reads
 use Rattle.groups.proofs.tree.wipe_ends.Reads as wipe-ends-reads
 
 -- src/tree.rt:102:5
@@ -17,16 +17,16 @@ wipe-ends-requires : tie.Need-wipe-ends-requires
 wipe-ends-requires c κs = search needs
 
 -- src/tree.rt:103:5
-clear-requires : tie.Need-clear-requires
-clear-requires c κs = search needs
+wipe-all-requires : tie.Need-wipe-all-requires
+wipe-all-requires c κs = search needs
 
 -- src/tree.rt:104:5
-clear-requires-2 : tie.Need-clear-requires-2
-clear-requires-2 c κs = search needs
+wipe-all-requires-2 : tie.Need-wipe-all-requires-2
+wipe-all-requires-2 c κs = search needs
 
 -- src/tree.rt:105:5
-clear-requires-3 : tie.Need-clear-requires-3
-clear-requires-3 c κs = search needs
+wipe-all-requires-3 : tie.Need-wipe-all-requires-3
+wipe-all-requires-3 c κs = search needs
 
 -- src/tree.rt:95:1
 same-length : tie.Need-same-length
@@ -34,15 +34,15 @@ same-length c = search needs
 
 -- src/tree.rt:95:1
 returns : tie.Need-returns
-returns c = tidied (c .before .before .before .before .before .before .before .before .before .before .before .before .before .before .wipe-ends .ensures) (c .before .before .before .before .before .before .before .before .before .before .clear .ensures) (c .before .before .before .before .before .before .clear2 .ensures) (c .before .before .clear3 .ensures)
+returns c = tidied (c .before .before .before .before .before .before .before .before .before .before .before .before .before .before .wipe-ends .ensures) (c .before .before .before .before .before .before .before .before .before .before .wipe-all .ensures) (c .before .before .before .before .before .before .wipe-all2 .ensures) (c .before .before .wipe-all3 .ensures)
 
 pub tidy-spec : {M : Type 1} → statement M
 tidy-spec =
     tie.close
     (tie.spec
     wipe-ends-requires
-    clear-requires
-    clear-requires-2
-    clear-requires-3
+    wipe-all-requires
+    wipe-all-requires-2
+    wipe-all-requires-3
     same-length
     returns)

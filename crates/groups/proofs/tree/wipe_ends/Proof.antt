@@ -9,27 +9,27 @@ use Rattle.groups.proofs.tree.wipe_ends.Statement.{statement}
 use Rattle.groups.proofs.tree.wipe_ends.Tie as tie
 use Rattle.groups.proofs.tree.wipe_ends.Reads as reads
 use Rattle.groups.proofs.tree.wipe_ends.Lts as lts
-use Rattle.groups.proofs.tree.wipe.Reads as wipe-reads
+use Rattle.columns.proofs.wipe_from.Reads as wipe-from-reads
 
 -- src/tree.rt:87:5
-wipe-requires : tie.Need-wipe-requires
-wipe-requires c κs = search needs
+wipe-from-requires : tie.Need-wipe-from-requires
+wipe-from-requires c κs = search needs
 
 -- src/tree.rt:88:5
-wipe-requires-2 : tie.Need-wipe-requires-2
-wipe-requires-2 c κs = search needs
+wipe-from-requires-2 : tie.Need-wipe-from-requires-2
+wipe-from-requires-2 c κs = search needs
 
 -- src/tree.rt:89:5
-wipe-requires-3 : tie.Need-wipe-requires-3
-wipe-requires-3 c κs = search needs
+wipe-from-requires-3 : tie.Need-wipe-from-requires-3
+wipe-from-requires-3 c κs = search needs
 
 -- src/tree.rt:90:5
-wipe-requires-4 : tie.Need-wipe-requires-4
-wipe-requires-4 c κs = search needs
+wipe-from-requires-4 : tie.Need-wipe-from-requires-4
+wipe-from-requires-4 c κs = search needs
 
 -- src/tree.rt:91:5
-wipe-requires-5 : tie.Need-wipe-requires-5
-wipe-requires-5 c κs = search needs
+wipe-from-requires-5 : tie.Need-wipe-from-requires-5
+wipe-from-requires-5 c κs = search needs
 
 -- src/tree.rt:80:1
 same-length : tie.Need-same-length
@@ -37,16 +37,16 @@ same-length c = search needs
 
 -- src/tree.rt:80:1
 returns : tie.Need-returns
-returns c = ends-done (c .before .before .before .before .before .before .before .before .before .before .before .before .before .before .before .before .before .before .wipe .ensures) (c .before .before .before .before .before .before .before .before .before .before .before .before .before .before .wipe2 .ensures) (c .before .before .before .before .before .before .before .before .before .before .wipe3 .ensures) (c .before .before .before .before .before .before .wipe4 .ensures) (c .before .before .wipe5 .ensures)
+returns c = ends-done (c .before .before .before .before .before .before .before .before .before .before .before .before .before .before .before .before .before .before .wipe-from .ensures) (c .before .before .before .before .before .before .before .before .before .before .before .before .before .before .wipe-from2 .ensures) (c .before .before .before .before .before .before .before .before .before .before .wipe-from3 .ensures) (c .before .before .before .before .before .before .wipe-from4 .ensures) (c .before .before .wipe-from5 .ensures)
 
 pub wipe-ends-spec : {M : Type 1} → statement M
 wipe-ends-spec =
     tie.close
     (tie.spec
-    wipe-requires
-    wipe-requires-2
-    wipe-requires-3
-    wipe-requires-4
-    wipe-requires-5
+    wipe-from-requires
+    wipe-from-requires-2
+    wipe-from-requires-3
+    wipe-from-requires-4
+    wipe-from-requires-5
     same-length
     returns)
