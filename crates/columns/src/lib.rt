@@ -16,6 +16,35 @@ pub const STRENGTH: usize = 4;
 
 pub const QUEUE: usize = 5;
 
+// And while the forest and the groups are made, from KEY and STRENGTH. The second and the third links of the triangles that one link leads.
+pub const SECOND: usize = 3;
+
+pub const THIRD: usize = 5;
+
+// Of each link: its parent in the union-find forest, the next weight at which it starts joins, its own group.
+pub const PARENT: usize = 6;
+
+pub const NEXT: usize = 7;
+
+pub const OWN_GROUP: usize = 8;
+
+// Of each join taken: lower link * HALF + higher link, and its weight.
+pub const JOIN_ENDS: usize = 9;
+
+pub const JOIN_WEIGHT: usize = 10;
+
+// Of each group: its strength, its parent, its least link.
+pub const GROUP_STRENGTH: usize = 11;
+
+pub const GROUP_PARENT: usize = 12;
+
+pub const GROUP_LEAST: usize = 13;
+
+// Of each root: the number of its group, and the strength of that group.
+pub const ROOT_GROUP: usize = 14;
+
+pub const ROOT_STRENGTH: usize = 15;
+
 pub const COLUMNS: usize = 16;
 
 // Two numbers below HALF share an entry: a * HALF + b.

@@ -6,6 +6,13 @@ ghost use Rattle.groups.specs.Marking.{MarkAsks, MarkGives, MarksAsks, M
 ghost use Rattle.groups.specs.Numbering.{NumberAsks, NumberGives, NumbersAsks, NumbersGives};
 ghost use Rattle.groups.specs.Naming.{NameAsks, NameGives, NamesAsks, NamesGives, AdoptAsks, AdoptGives, AdoptsAsks, AdoptsGives};
 ghost use Rattle.groups.specs.Level.{GroupAsks, GroupGives};
+use columns::GROUP_LEAST;
+use columns::GROUP_PARENT;
+use columns::GROUP_STRENGTH;
+use columns::OWN_GROUP;
+use columns::ROOT_GROUP;
+use columns::ROOT_STRENGTH;
+use columns::STRENGTH;
 use columns::get;
 use columns::put;
 use unions::roots::find;
@@ -15,11 +22,11 @@ fn mark_one(w: &mut [u32], m: usize, e: usize, k: usize)
     requires { ⌜ MarkAsks m e k (now w) ⌝ }
     ensures { λ _. ⌜ MarkGives m e k (now (w .entry)) (now (w .exit)) ⌝ }
 {
-    if get(w, m, 4, e) != k {
+    if get(w, m, STRENGTH, e) != k {
         return;
     }
     let r = find(w, m, e);
-    put(w, m, 15, r, k);
+    put(w, m, ROOT_STRENGTH, r, k);
 }
 
 // Marks the roots of the links of strength k.
@@ -39,13 +46,13 @@ fn number_one(w: &mut [u32], m: usize, r: usize, k: usize, g: usize) -> usize
     requires { ⌜ NumberAsks m r k g (now w) ⌝ }
     ensures { λ c. ⌜ NumberGives m r k g c (now (w .entry)) (now (w .exit)) ⌝ }
 {
-    if get(w, m, 15, r) != k {
+    if get(w, m, ROOT_STRENGTH, r) != k {
         return g;
     }
-    put(w, m, 14, r, g);
-    put(w, m, 11, g, k);
-    put(w, m, 12, g, 65535);
-    put(w, m, 13, g, r);
+    put(w, m, ROOT_GROUP, r, g);
+    put(w, m, GROUP_STRENGTH, g, k);
+    put(w, m, GROUP_PARENT, g, 65535);
+    put(w, m, GROUP_LEAST, g, r);
     g + 1
 }
 
@@ -68,12 +75,12 @@ fn name_one(w: &mut [u32], m: usize, e: usize, k: usize)
     requires { ⌜ NameAsks m e k (now w) ⌝ }
     ensures { λ _. ⌜ NameGives m e k (now (w .entry)) (now (w .exit)) ⌝ }
 {
-    if get(w, m, 4, e) != k {
+    if get(w, m, STRENGTH, e) != k {
         return;
     }
     let r = find(w, m, e);
-    let g = get(w, m, 14, r);
-    put(w, m, 8, e, g);
+    let g = get(w, m, ROOT_GROUP, r);
+    put(w, m, OWN_GROUP, e, g);
 }
 
 // The own groups of the links of strength k.
@@ -93,16 +100,16 @@ fn adopt_one(w: &mut [u32], m: usize, k: usize, g: usize)
     requires { ⌜ AdoptAsks m k g (now w) ⌝ }
     ensures { λ _. ⌜ AdoptGives m k g (now (w .entry)) (now (w .exit)) ⌝ }
 {
-    if get(w, m, 12, g) != 65535 {
+    if get(w, m, GROUP_PARENT, g) != 65535 {
         return;
     }
-    let l = get(w, m, 13, g);
+    let l = get(w, m, GROUP_LEAST, g);
     let r = find(w, m, l);
-    if get(w, m, 15, r) != k {
+    if get(w, m, ROOT_STRENGTH, r) != k {
         return;
     }
-    let h = get(w, m, 14, r);
-    put(w, m, 12, g, h);
+    let h = get(w, m, ROOT_GROUP, r);
+    put(w, m, GROUP_PARENT, g, h);
 }
 
 // The groups below `count` that have no parent get theirs, if it has strength k.

@@ -5,6 +5,17 @@ ghost use lib.ListN.{length};
 ghost use Rattle.groups.specs.Tree.{LevelsAsks, LevelsGives, WorkAsks, WorkGives};
 ghost use Rattle.groups.specs.Whole.{Ends, Tidied, TreeAsks, TreeGives};
 use crate::level::group;
+use columns::COLUMNS;
+use columns::GROUP_LEAST;
+use columns::GROUP_PARENT;
+use columns::GROUP_STRENGTH;
+use columns::JOIN_ENDS;
+use columns::JOIN_WEIGHT;
+use columns::NEAR;
+use columns::OWN_GROUP;
+use columns::ROOT_GROUP;
+use columns::STRENGTH;
+use columns::THIRD;
 use columns::wipe_all;
 use columns::wipe_from;
 use forest::level::level;
@@ -55,11 +66,11 @@ fn wipe_ends(w: &mut [u32], m: usize, joins: usize, groups: usize)
     requires { ⌜ m ≤ 65535 ⌝ }
     ensures { λ _. ⌜ Ends m joins groups (now (w .entry)) (now (w .exit)) ⌝ }
 {
-    wipe_from(w, m, 9, joins);
-    wipe_from(w, m, 10, joins);
-    wipe_from(w, m, 11, groups);
-    wipe_from(w, m, 12, groups);
-    wipe_from(w, m, 13, groups);
+    wipe_from(w, m, JOIN_ENDS, joins);
+    wipe_from(w, m, JOIN_WEIGHT, joins);
+    wipe_from(w, m, GROUP_STRENGTH, groups);
+    wipe_from(w, m, GROUP_PARENT, groups);
+    wipe_from(w, m, GROUP_LEAST, groups);
 }
 
 // All that is no result at 0.
@@ -71,9 +82,9 @@ fn tidy(w: &mut [u32], m: usize, joins: usize, groups: usize)
     ensures { λ _. ⌜ Tidied m joins groups (now (w .entry)) (now (w .exit)) ⌝ }
 {
     wipe_ends(w, m, joins, groups);
-    wipe_all(w, m, 1, 4);
-    wipe_all(w, m, 5, 8);
-    wipe_all(w, m, 14, 16);
+    wipe_all(w, m, NEAR, STRENGTH);
+    wipe_all(w, m, THIRD, OWN_GROUP);
+    wipe_all(w, m, ROOT_GROUP, COLUMNS);
 }
 
 // An entry for each account, and one more.
@@ -81,8 +92,8 @@ fn room() -> [u32; 1025] {
     [0u32; 1025]
 }
 
-// From keys (column 0) and strengths (column 4): the forest in columns 9 and 10, the groups in columns 11 to 13, each link's own group in
-// column 8; all else is 0.
+// From columns KEY and STRENGTH: the forest in columns JOIN_ENDS and JOIN_WEIGHT, the groups in columns GROUP_STRENGTH to GROUP_LEAST, each
+// link's own group in column OWN_GROUP; all else is 0.
 pub fn tree(w: &mut [u32], m: usize, n: usize) -> Sizes
     requires { ⌜ TreeAsks m n (now w) ⌝ }
     ensures { λ r. ⌜ TreeGives m n (r .joins) (r .groups) (now (w .entry)) (now (w .exit)) ⌝ }

@@ -4,6 +4,10 @@ ghost use Prim.Native.Nat.{_+_, _*_, _<_, _≤_, min, max};
 ghost use lib.ListN.{length};
 ghost use Rattle.unions.specs.Joins.{UnitePre, united, JoinAsks, JoinGives};
 use crate::roots::find;
+use columns::HALF;
+use columns::JOIN_ENDS;
+use columns::JOIN_WEIGHT;
+use columns::PARENT;
 use columns::get;
 use columns::put;
 
@@ -28,9 +32,9 @@ fn unite(w: &mut [u32], m: usize, a: usize, b: usize, e: usize, f: usize, k: usi
 {
     let x = lesser(a, b);
     let y = greater(a, b);
-    put(w, m, 6, y, x);
-    put(w, m, 9, joins, e * 65536 + f);
-    put(w, m, 10, joins, k);
+    put(w, m, PARENT, y, x);
+    put(w, m, JOIN_ENDS, joins, e * HALF + f);
+    put(w, m, JOIN_WEIGHT, joins, k);
 }
 
 // The join of the links e and f, of weight k, taken if it closes no ring. Gives the number of joins.
@@ -38,7 +42,7 @@ pub fn join(w: &mut [u32], m: usize, e: usize, f: usize, k: usize, joins: usize)
     requires { ⌜ JoinAsks m e f k joins (now w) ⌝ }
     ensures { λ r. ⌜ JoinGives m e f k joins r (now (w .entry)) (now (w .exit)) ⌝ }
 {
-    if get(w, m, 6, e) == get(w, m, 6, f) {
+    if get(w, m, PARENT, e) == get(w, m, PARENT, f) {
         return joins;
     }
     let a = find(w, m, e);

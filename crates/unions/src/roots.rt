@@ -1,8 +1,9 @@
-// The union-find forest of the links, in column 6: a parent is never above its child, so a root is the least link of its component.
+// The union-find forest of the links, in column PARENT: a parent is never above its child, so a root is the least link of its component.
 ghost use mathlib.Core.Path.{_≡_};
 ghost use Prim.Native.Nat.{_+_, _*_, _<_, _≤_};
 ghost use lib.ListN.{length};
 ghost use Rattle.unions.specs.Find.{FindPre, Found, HalvePre, Halved};
+use columns::PARENT;
 use columns::get;
 use columns::put;
 
@@ -11,8 +12,8 @@ fn halve(w: &mut [u32], m: usize, x: usize, p: usize) -> usize
     requires { ⌜ HalvePre m x p (now w) ⌝ }
     ensures { λ r. ⌜ Halved m x r (now (w .entry)) (now (w .exit)) ⌝ }
 {
-    let q = get(w, m, 6, p);
-    put(w, m, 6, x, q);
+    let q = get(w, m, PARENT, p);
+    put(w, m, PARENT, x, q);
     q
 }
 
@@ -22,10 +23,10 @@ pub fn find(w: &mut [u32], m: usize, from: usize) -> usize
     ensures { λ r. ⌜ Found m from r (now (w .entry)) (now (w .exit)) ⌝ }
 {
     let mut x = from;
-    let mut p = get(w, m, 6, x);
+    let mut p = get(w, m, PARENT, x);
     while p != x {
         x = halve(w, m, x, p);
-        p = get(w, m, 6, x);
+        p = get(w, m, PARENT, x);
     }
     x
 }
