@@ -9,6 +9,9 @@ ghost use Rattle.truss.specs.Record.{endBytes, headBytes, kindHead};
 ghost use Rattle.wire.specs.Writing.{upTo, written};
 ghost use Rattle.index.specs.Build.{BuildGives, FinishGives, Replies, replied};
 ghost use Rattle.index.specs.Read.{OpenGives, openingOf, KeysRead, NextKey, ReadGives, StrongFit, backBytes};
+use columns::COLUMNS;
+use columns::HALF;
+use columns::KEY;
 use columns::put;
 use groups::tree::Sizes;
 use groups::tree::tree;
@@ -99,7 +102,7 @@ pub fn build(links: &[u8], out: &mut [u8]) -> Reply
         FileHead::Refused(number) => answered(number, 0),
         FileHead::Good { n, m } => {
             let mut work = room();
-            let size = 16 * m;
+            let size = COLUMNS * m;
             build_in(links, out, &mut work[..size], n, m)
         }
     }
@@ -121,7 +124,7 @@ fn next_key(s: &[u8], at: usize, n: usize, last: usize) -> usize
     if n <= b {
         return 0;
     }
-    let k = a * 65536 + b;
+    let k = a * HALF + b;
     if k <= last {
         return 0;
     }
@@ -140,7 +143,7 @@ fn read_keys(s: &[u8], n: usize, m: usize, w: &mut [u32]) -> bool
         if k == 0 {
             return false;
         }
-        put(w, m, 0, i, k);
+        put(w, m, KEY, i, k);
         last = k;
         i += 1;
     }
@@ -239,7 +242,7 @@ pub fn read(index: &[u8], out: &mut [u8]) -> Reply
         FileHead::Refused(number) => answered(7, 0),
         FileHead::Good { n, m } => {
             let mut work = room();
-            let size = 16 * m;
+            let size = COLUMNS * m;
             read_in(index, out, &mut work[..size], n, m)
         }
     }

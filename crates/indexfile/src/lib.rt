@@ -6,6 +6,15 @@ ghost use Rattle.truss.specs.Index.{encode};
 ghost use Rattle.columns.specs.Columns.{cell};
 ghost use Rattle.wire.specs.Writing.{Tells, upTo, written};
 ghost use Rattle.indexfile.specs.Rows.{GroupGiven, JoinGiven, LinkGiven, Writes, groupRecord, indexIn, joinRecord, linkRecord};
+use columns::GROUP_LEAST;
+use columns::GROUP_PARENT;
+use columns::GROUP_STRENGTH;
+use columns::HALF;
+use columns::JOIN_ENDS;
+use columns::JOIN_WEIGHT;
+use columns::KEY;
+use columns::OWN_GROUP;
+use columns::STRENGTH;
 use columns::get;
 use wire::END;
 use wire::HEAD;
@@ -33,10 +42,10 @@ fn link_in(w: &[u32], m: usize, i: usize) -> [u8; 8]
     requires { ⌜ cell (now w) m 4 i < 256 ⌝ }
     ensures { λ r. ⌜ r ≡ linkRecord (now (w .entry)) m i ⌝ }
 {
-    let k = get(w, m, 0, i);
-    let s = get(w, m, 4, i);
-    let g = get(w, m, 8, i);
-    link_record(k / 65536, k % 65536, s, g)
+    let k = get(w, m, KEY, i);
+    let s = get(w, m, STRENGTH, i);
+    let g = get(w, m, OWN_GROUP, i);
+    link_record(k / HALF, k % HALF, s, g)
 }
 
 // The links, at the front of what is lent.
@@ -81,9 +90,9 @@ fn join_in(w: &[u32], m: usize, i: usize) -> [u8; 6]
     requires { ⌜ cell (now w) m 10 i < 256 ⌝ }
     ensures { λ r. ⌜ r ≡ joinRecord (now (w .entry)) m i ⌝ }
 {
-    let p = get(w, m, 9, i);
-    let k = get(w, m, 10, i);
-    join_record(p / 65536, p % 65536, k)
+    let p = get(w, m, JOIN_ENDS, i);
+    let k = get(w, m, JOIN_WEIGHT, i);
+    join_record(p / HALF, p % HALF, k)
 }
 
 // The joins, at the front of what is lent.
@@ -128,9 +137,9 @@ fn group_in(w: &[u32], m: usize, i: usize) -> [u8; 6]
     requires { ⌜ cell (now w) m 11 i < 256 ⌝ }
     ensures { λ r. ⌜ r ≡ groupRecord (now (w .entry)) m i ⌝ }
 {
-    let k = get(w, m, 11, i);
-    let p = get(w, m, 12, i);
-    let e = get(w, m, 13, i);
+    let k = get(w, m, GROUP_STRENGTH, i);
+    let p = get(w, m, GROUP_PARENT, i);
+    let e = get(w, m, GROUP_LEAST, i);
     group_record(p, k, e)
 }
 

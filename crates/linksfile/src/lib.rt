@@ -6,6 +6,7 @@ ghost use Rattle.truss.specs.LinksFile.{readHead};
 ghost use Rattle.linksfile.specs.Records.{keyOf, recordAt};
 ghost use Rattle.linksfile.specs.Load.{Ended, ScanAsks, Scanned, LoadAsks, LoadGives};
 ghost use Rattle.linksfile.specs.Answers.{headOf, plainOf};
+use columns::HALF;
 use columns::put;
 use sorting::FILE;
 use sorting::sort;
@@ -71,7 +72,7 @@ fn key_of(a: usize, b: usize) -> usize
     requires { ⌜ b < 65536 ⌝ }
     ensures { λ r. ⌜ r ≡ keyOf (link a b) ⌝ }
 {
-    if a < b { a * 65536 + b } else { b * 65536 + a }
+    if a < b { a * HALF + b } else { b * HALF + a }
 }
 
 // One record's own checks: 1, 4, 5.

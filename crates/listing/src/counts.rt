@@ -10,6 +10,8 @@ ghost use Rattle.listing.specs.Touching.{LinkGives, Small, TouchOne, UpF
 ghost use Rattle.listing.specs.Counting.{RoundState};
 ghost use Rattle.listing.specs.Rows.{AccountsAsks, AccountsGive, Counted, CountGiven, KeysFrom, LinksAsks, LinksGive, RoundAsks};
 use adjacency::lists::lists;
+use columns::HALF;
+use columns::KEY;
 use columns::get;
 use columns::near;
 use columns::put;
@@ -20,6 +22,13 @@ use stored::rows::group_parent;
 use stored::rows::link_group;
 use stored::rows::link_higher;
 use stored::rows::link_lower;
+
+// Of each group: the last round that touched it, how many accounts and how many links it has.
+const LAST: usize = 3;
+
+pub const ACCOUNTS: usize = 4;
+
+pub const LINKS: usize = 5;
 
 // The keys of the links in column 0, as the lists of links by account ask for them.
 fn load_keys(s: &[u8], w: &mut [u32], m: usize)
@@ -32,7 +41,7 @@ fn load_keys(s: &[u8], w: &mut [u32], m: usize)
     while i < m {
         let a = link_lower(s, i);
         let b = link_higher(s, i);
-        put(w, m, 0, i, a * 65536 + b);
+        put(w, m, KEY, i, a * HALF + b);
         i += 1;
     }
 }
@@ -48,10 +57,10 @@ fn touch(w: &mut [u32], m: usize, count: usize, c: usize, x: usize, r: usize)
     requires { ⌜ cell (now w) m c x < 65535 ⌝ }
     ensures { λ _. ⌜ TouchOne m count c x r (now (w .entry)) (now (w .exit)) ⌝ }
 {
-    if get(w, m, 3, x) == r {
+    if get(w, m, LAST, x) == r {
         return;
     }
-    put(w, m, 3, x, r);
+    put(w, m, LAST, x, r);
     let y = get(w, m, c, x);
     put(w, m, c, x, y + 1);
 }
@@ -110,7 +119,7 @@ fn count_links(s: &[u8], at: usize, w: &mut [u32], m: usize, count: usize)
 {
     let mut i: usize = 0;
     while i < m {
-        touch_link(s, at, w, m, count, 5, i, i + 1);
+        touch_link(s, at, w, m, count, LINKS, i, i + 1);
         i += 1;
     }
 }
@@ -132,7 +141,7 @@ fn touch_account(
     let mut j = from;
     while j < until {
         let x = near(w, m, j);
-        touch_link(s, at, w, m, count, 4, x % 65536, v + 1);
+        touch_link(s, at, w, m, count, ACCOUNTS, x % HALF, v + 1);
         j += 1;
     }
 }
@@ -177,9 +186,9 @@ fn count_with(
 {
     load_keys(s, w, m);
     lists(w, m, n, start, next);
-    wipe_all(w, m, 3, 6);
+    wipe_all(w, m, LAST, LINKS + 1);
     count_links(s, at, w, m, count);
-    wipe(w, m, 3);
+    wipe(w, m, LAST);
     count_accounts(s, at, w, m, n, count, start);
 }
 

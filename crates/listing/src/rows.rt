@@ -5,7 +5,10 @@ ghost use lib.ListN.{length};
 ghost use Rattle.linksfile.specs.Load.{LoadAsks};
 ghost use Rattle.wire.specs.Writing.{upTo, written};
 ghost use Rattle.listing.specs.Rows.{RowAsks, RowsAsks, RowsGives, rowOf};
+use crate::counts::ACCOUNTS;
+use crate::counts::LINKS;
 use crate::counts::count_all;
+use columns::COLUMNS;
 use columns::get;
 use index::Opening;
 use index::Reply;
@@ -28,8 +31,8 @@ fn put_row(out: &mut [u32], s: &[u8], at: usize, w: &[u32], m: usize, count: usi
     let e = group_least(s, at, g);
     out[0] = group_strength(s, at, g) as u32;
     out[1] = group_parent(s, at, g) as u32;
-    out[2] = get(w, m, 5, g) as u32;
-    out[3] = get(w, m, 4, g) as u32;
+    out[2] = get(w, m, LINKS, g) as u32;
+    out[3] = get(w, m, ACCOUNTS, g) as u32;
     out[4] = link_lower(s, e) as u32;
     out[5] = link_higher(s, e) as u32;
 }
@@ -82,7 +85,7 @@ pub fn rows(index: &[u8], out: &mut [u32]) -> Reply
         FileHead::Refused(_) => answered(7, 0),
         FileHead::Good { n, m } => {
             let mut work = room();
-            let size = 16 * m;
+            let size = COLUMNS * m;
             rows_in(index, out, &mut work[..size], n, m)
         }
     }

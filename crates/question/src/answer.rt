@@ -12,6 +12,7 @@ use crate::links::strength_of;
 use crate::named::all_groups;
 use crate::named::groups_at;
 use crate::named::strongest_groups;
+use columns::COLUMNS;
 use index::Opening;
 use index::Reply;
 use index::answered;
@@ -112,7 +113,7 @@ pub fn answer(index: &[u8], named: &[u8], out: &mut [u8], q: Question) -> Reply
         FileHead::Refused(_) => answered(7, 0),
         FileHead::Good { n, m } => {
             let mut work = room();
-            let size = 16 * m;
+            let size = COLUMNS * m;
             answer_in(index, named, out, q, &mut work[..size], n, m)
         }
     }
