@@ -14,58 +14,130 @@ use Rattle.laws.proofs.Members.{number-lt, link-of-number}
 use Rattle.laws.proofs.Numbers.{same-or-not}
 use Rattle.laws.proofs.Peeling.{truss-is, no-triangle}
 use Rattle.laws.proofs.ProperLinks.{live, live-member, is-live, at-member, end-below}
-use Rattle.columns.specs.Columns.{cell, store, SUPPORT, STRENGTH, FREE, COLUMNS}
+use Rattle.columns.specs.Columns.{cell, store, SUPPORT, STRENGTH, QUEUE, FREE, COLUMNS}
 use Rattle.columns.specs.Laws.{Upd, Same, upd-store, same-store, same-trans}
 use Rattle.adjacency.specs.State.{Named, Kept, kept-none, kept-trans, kept-store, whole}
+use Rattle.removal.specs.Queue.{Line}
 use Rattle.removal.specs.State.{Ready}
+use Rattle.peeling.specs.Seed.{push-kept, push-supports, push-strengths, push-queue}
 
-pub data Bared (m e : ℕ) (w w′ : List ℕ) : Type 0 where
-  lone : cell w m SUPPORT e ≡ 0 → w′ ≡ store w m STRENGTH e 2 → Bared m e w w′
-  shared : cell w m SUPPORT e ≢ 0 → w′ ≡ store w m STRENGTH e 0 → Bared m e w w′
+pub data Bared (m e tail r : ℕ) (w w′ : List ℕ) : Type 0 where
+  lone : cell w m SUPPORT e ≡ 0 → r ≡ tail + 1 → w′ ≡ store (store w m STRENGTH e 2) m QUEUE tail e → Bared m e tail r w w′
+  shared : cell w m SUPPORT e ≢ 0 → r ≡ tail → w′ ≡ store w m STRENGTH e 0 → Bared m e tail r w w′
 
--- the links below e
-pub record Bare (m e : ℕ) (w₀ w : List ℕ) : Type 0 where
+-- the links below e; those in no triangle are the first in the queue
+pub record Bare (m e tail : ℕ) (w₀ w : List ℕ) : Type 0 where
+  pub few : tail ≤ e
+  pub line : Line e tail (cell w m STRENGTH) (cell w m QUEUE)
   pub kept : Kept m FREE w₀ w
   pub supports : Same m (cell w₀ m SUPPORT) (cell w m SUPPORT)
   pub lone : (y : ℕ) → y < e → cell w m SUPPORT y ≡ 0 → cell w m STRENGTH y ≡ 2
   pub shared : (y : ℕ) → y < e → cell w m SUPPORT y ≢ 0 → cell w m STRENGTH y ≡ 0
 
-pub bare-none : (m : ℕ) (w : List ℕ) → Bare m 0 w w
+pub bare-none : (m : ℕ) (w : List ℕ) → Bare m 0 0 w w
 bare-none m w = record {
+  few = omega arith;
+  line = record { within = λ i l. absurd (omega arith); named = λ i l. absurd (omega arith); once = λ i j l k e. absurd (omega arith) };
   kept = kept-none m FREE w;
   supports = λ y l. refl;
   lone = λ y l z. absurd (omega arith);
   shared = λ y l z. absurd (omega arith);
 }
 
-module _ {m e : ℕ} {w₀ w : List ℕ} (B : Bare m e w₀ w) (size : length w₀ ≡ COLUMNS * m) (below : e < m) where
-  stored : (v : ℕ) → (cell w m SUPPORT e ≡ 0 → v ≡ 2) → (cell w m SUPPORT e ≢ 0 → v ≡ 0) → Bare m (e + 1) w₀ (store w m STRENGTH e v)
-  stored v at₂ at₀ = record {
-    kept = kept-trans (B .kept) (kept-store w m FREE STRENGTH e v (omega arith) (omega arith) below);
-    supports = same-trans (B .supports) same;
-    lone = λ y l z. low y l (sym (same y (omega arith)) ∙ z) (same-or-not y e);
-    shared = λ y l z. high y l (λ q. z (same y (omega arith) ∙ q)) (same-or-not y e);
-  }
+module _ {m e tail : ℕ} {w₀ w : List ℕ} (B : Bare m e tail w₀ w) (size : length w₀ ≡ COLUMNS * m) (below : e < m) where
+  pub bare-room : tail < m
+  bare-room = omega (arith, B .few)
+
+  pub bare-size : length w ≡ COLUMNS * m
+  bare-size = B .kept .length-is ∙ size
+
+  -- link e gets the strength v
+  module _ {w′ : List ℕ} {v : ℕ} (keeps : Kept m FREE w w′) (same : Same m (cell w m SUPPORT) (cell w′ m SUPPORT)) (four : Upd m (cell w m STRENGTH) (cell w′ m STRENGTH) e v)
+      (at₂ : cell w m SUPPORT e ≡ 0 → v ≡ 2) (at₀ : cell w m SUPPORT e ≢ 0 → v ≡ 0) where
+    stepped : (r : ℕ) → r ≤ e + 1 → Line (e + 1) r (cell w′ m STRENGTH) (cell w′ m QUEUE) → Bare m (e + 1) r w₀ w′
+    stepped r few line = record {
+      few = few;
+      line = line;
+      kept = kept-trans (B .kept) keeps;
+      supports = same-trans (B .supports) same;
+      lone = λ y l z. low y l (sym (same y (omega arith)) ∙ z) (same-or-not y e);
+      shared = λ y l z. high y l (λ q. z (same y (omega arith) ∙ q)) (same-or-not y e);
+    }
+      where
+        low : (y : ℕ) → y < e + 1 → cell w m SUPPORT y ≡ 0 → (y ≡ e) ⊎ (y ≢ e) → cell w′ m STRENGTH y ≡ 2
+        low y l z (inl q) = ap (cell w′ m STRENGTH) q ∙ four .here ∙ at₂ (ap (cell w m SUPPORT) (sym q) ∙ z)
+        low y l z (inr q) = four .else y (omega arith) q ∙ B .lone y (omega arith) z
+
+        high : (y : ℕ) → y < e + 1 → cell w m SUPPORT y ≢ 0 → (y ≡ e) ⊎ (y ≢ e) → cell w′ m STRENGTH y ≡ 0
+        high y l z (inl q) = ap (cell w′ m STRENGTH) q ∙ four .here ∙ at₀ (λ t. z (ap (cell w m SUPPORT) q ∙ t))
+        high y l z (inr q) = four .else y (omega arith) q ∙ B .shared y (omega arith) z
+
+    -- what is in the queue has its strength still
+    old : (i : ℕ) → i < tail → cell w′ m STRENGTH (cell w m QUEUE i) ≢ 0
+    old i l z =
+        let k : cell w m QUEUE i < e = B .line .within i l in
+        B .line .named i l (sym (four .else (cell w m QUEUE i) (omega arith) (omega arith)) ∙ z)
+
+  pub bare-next : {r : ℕ} {w′ : List ℕ} → Bared m e tail r w w′ → Bare m (e + 1) r w₀ w′
+  bare-next {r} {w′} (shared z rt is) = rw (rt, is) (stepped keeps same four (λ t. absurd (z t)) (λ t. refl) tail (omega (arith, B .few)) (record {
+    within = λ i l. rw (queue i l) (omega (arith, B .line .within i l));
+    named = λ i l. rw (queue i l) (old keeps same four (λ t. absurd (z t)) (λ t. refl) i l);
+    once = λ i j l k q. B .line .once i j l k (sym (queue i l) ∙ q ∙ queue j k);
+  }))
     where
-      same : Same m (cell w m SUPPORT) (cell (store w m STRENGTH e v) m SUPPORT)
-      same = same-store w m STRENGTH SUPPORT e v (omega arith) below
+      keeps : Kept m FREE w (store w m STRENGTH e 0)
+      keeps = kept-store w m FREE STRENGTH e 0 (omega arith) (omega arith) below
 
-      four : Upd m (cell w m STRENGTH) (cell (store w m STRENGTH e v) m STRENGTH) e v
-      four = upd-store w m STRENGTH e v (omega arith) below (B .kept .length-is ∙ size)
+      same : Same m (cell w m SUPPORT) (cell (store w m STRENGTH e 0) m SUPPORT)
+      same = same-store w m STRENGTH SUPPORT e 0 (omega arith) below
 
-      low : (y : ℕ) → y < e + 1 → cell w m SUPPORT y ≡ 0 → (y ≡ e) ⊎ (y ≢ e) → cell (store w m STRENGTH e v) m STRENGTH y ≡ 2
-      low y l z (inl q) = ap (cell (store w m STRENGTH e v) m STRENGTH) q ∙ four .here ∙ at₂ (ap (cell w m SUPPORT) (sym q) ∙ z)
-      low y l z (inr q) = four .else y (omega arith) q ∙ B .lone y (omega arith) z
+      four : Upd m (cell w m STRENGTH) (cell (store w m STRENGTH e 0) m STRENGTH) e 0
+      four = upd-store w m STRENGTH e 0 (omega arith) below bare-size
 
-      high : (y : ℕ) → y < e + 1 → cell w m SUPPORT y ≢ 0 → (y ≡ e) ⊎ (y ≢ e) → cell (store w m STRENGTH e v) m STRENGTH y ≡ 0
-      high y l z (inl q) = ap (cell (store w m STRENGTH e v) m STRENGTH) q ∙ four .here ∙ at₀ (λ t. z (ap (cell w m SUPPORT) q ∙ t))
-      high y l z (inr q) = four .else y (omega arith) q ∙ B .shared y (omega arith) z
+      queue : (i : ℕ) → i < tail → cell (store w m STRENGTH e 0) m QUEUE i ≡ cell w m QUEUE i
+      queue i l = same-store w m STRENGTH QUEUE e 0 (omega arith) below i (omega (arith, bare-room))
+  bare-next {r} {w′} (lone z rt is) = rw (rt, is) (stepped keeps same four (λ t. refl) (λ t. absurd (t z)) (tail + 1) (omega (arith, B .few)) (record {
+    within = λ i l. in-it i l (same-or-not i tail);
+    named = λ i l. has i l (same-or-not i tail);
+    once = λ i j l k q. one i j l k q (same-or-not i tail) (same-or-not j tail);
+  }))
+    where
+      keeps : Kept m FREE w (store (store w m STRENGTH e 2) m QUEUE tail e)
+      keeps = push-kept m e 0 tail w bare-size below bare-room
 
-  pub bare-next : {w′ : List ℕ} → Bared m e w w′ → Bare m (e + 1) w₀ w′
-  bare-next (lone z is) = rw is (stored 2 (λ t. refl) (λ t. absurd (t z)))
-  bare-next (shared z is) = rw is (stored 0 (λ t. absurd (z t)) (λ t. refl))
+      same : Same m (cell w m SUPPORT) (cell (store (store w m STRENGTH e 2) m QUEUE tail e) m SUPPORT)
+      same = push-supports m e 0 tail w bare-size below bare-room
 
-pub bare-all : {m e : ℕ} {w w′ : List ℕ} → e ≡ m → Bare m e w w′ → Bare m m w w′
+      four : Upd m (cell w m STRENGTH) (cell (store (store w m STRENGTH e 2) m QUEUE tail e) m STRENGTH) e 2
+      four = push-strengths m e 0 tail w bare-size below bare-room
+
+      five : Upd m (cell w m QUEUE) (cell (store (store w m STRENGTH e 2) m QUEUE tail e) m QUEUE) tail e
+      five = push-queue m e 0 tail w bare-size below bare-room
+
+      at : (i : ℕ) → i ≡ tail → cell (store (store w m STRENGTH e 2) m QUEUE tail e) m QUEUE i ≡ e
+      at i q = ap (cell (store (store w m STRENGTH e 2) m QUEUE tail e) m QUEUE) q ∙ five .here
+
+      else : (i : ℕ) → i < tail + 1 → i ≢ tail → cell (store (store w m STRENGTH e 2) m QUEUE tail e) m QUEUE i ≡ cell w m QUEUE i
+      else i l q = five .else i (omega (arith, bare-room)) q
+
+      in-it : (i : ℕ) → i < tail + 1 → (i ≡ tail) ⊎ (i ≢ tail) → cell (store (store w m STRENGTH e 2) m QUEUE tail e) m QUEUE i < e + 1
+      in-it i l (inl q) = rw (at i q) (omega arith)
+      in-it i l (inr q) = rw (else i l q) (omega (arith, B .line .within i (omega arith)))
+
+      has : (i : ℕ) → i < tail + 1 → (i ≡ tail) ⊎ (i ≢ tail)
+          → cell (store (store w m STRENGTH e 2) m QUEUE tail e) m STRENGTH (cell (store (store w m STRENGTH e 2) m QUEUE tail e) m QUEUE i) ≢ 0
+      has i l (inl q) = rw (at i q, four .here) (omega arith)
+      has i l (inr q) = rw (else i l q) (old keeps same four (λ t. refl) (λ t. absurd (t z)) i (omega arith))
+
+      one : (i j : ℕ) → i < tail + 1 → j < tail + 1
+          → cell (store (store w m STRENGTH e 2) m QUEUE tail e) m QUEUE i ≡ cell (store (store w m STRENGTH e 2) m QUEUE tail e) m QUEUE j
+          → (i ≡ tail) ⊎ (i ≢ tail) → (j ≡ tail) ⊎ (j ≢ tail) → i ≡ j
+      one i j l k q (inl a) (inl b) = a ∙ sym b
+      one i j l k q (inl a) (inr b) = absurd (omega (arith, B .line .within j (omega arith), at i a, q, else j k b))
+      one i j l k q (inr a) (inl b) = absurd (omega (arith, B .line .within i (omega arith), at j b, q, else i l a))
+      one i j l k q (inr a) (inr b) = B .line .once i j (omega arith) (omega arith) (sym (else i l a) ∙ q ∙ else j k b)
+
+pub bare-all : {m e tail : ℕ} {w w′ : List ℕ} → e ≡ m → Bare m e tail w w′ → Bare m m tail w w′
 bare-all q h = rw q at h
 
 -- ---- before the first level: these links are removed, and the others hold the 3-truss
@@ -116,8 +188,9 @@ module _ {G : Graph} {m n : ℕ} {w : List ℕ} (N : Named G m n w) (triangles :
   link-here : (y : ℕ) → y < m → member (G .links) (linkAt G y) ≡ true
   link-here y l = at-member G (N .proper) y (omega (arith, N .count))
 
-  pub ready-bare : Ready G m 3 (given m w) w
-  ready-bare = record {
+  pub ready-bare : {tail : ℕ} → Line m tail (cell w m STRENGTH) (cell w m QUEUE) → Ready G m 3 tail (given m w) w
+  ready-bare line = record {
+    line = line;
     ended = λ y l z. z;
     finished = λ y l z. z;
     gone = none;

@@ -16,67 +16,69 @@ use Rattle.columns.specs.Columns.{cell, SUPPORT, STRENGTH, QUEUE, FREE, noSuppo
 use Rattle.columns.specs.Wiping.{Wiping}
 use Rattle.adjacency.specs.State.{Named, Near, Marks, Held, kept-held, kept-wiped, held-none, held-trans, named-kept, named-held, whole, startAt}
 use Rattle.adjacency.specs.Lists.{Zeroed}
+use Rattle.removal.specs.Queue.{Line}
 use Rattle.removal.specs.Left.{Left, left-whole, left-kept}
-use Rattle.removal.specs.Marks.{Marked, marked-first, marked-falls}
+use Rattle.removal.specs.Marks.{Stamps, stamps-first}
 use Rattle.removal.specs.State.{All, None, Level, Ready}
 use Rattle.removal.specs.Level.{level-start}
 use Rattle.peeling.specs.Bare.{Bare, given, some, ready-bare}
 use Rattle.peeling.specs.Drain.{DrainPre, Drained}
 use Rattle.peeling.specs.Seed.{SeedPre, Seeding, seeding-left, level-seeded, Least}
 
-pub record LevelPre (G : Graph) (m n s at : ℕ) (d : ℕ → ℕ) (w start stop mark : List ℕ) : Type 0 where
+pub record LevelPre (G : Graph) (m n s tail : ℕ) (d : ℕ → ℕ) (w start stop mark : List ℕ) : Type 0 where
   pub named : Named G m n w
   pub left : Left G m w start stop
-  pub marked : Marked G m at w mark
+  pub stamps : Stamps G mark
   pub small : s < noSupport
   pub some : 1 ≤ s
-  pub ready : Ready G m (s + 2) d w
+  pub ready : Ready G m (s + 2) tail d w
   pub least : (y : ℕ) → y < m → cell w m STRENGTH y ≡ 0 → s ≤ cell w m SUPPORT y
 
 abbrev pub LevelAsks : ℕ → ℕ → ℕ → ℕ → List ℕ → List ℕ → List ℕ → List ℕ → Type 0
-LevelAsks m n s at w start stop mark = (G : Graph) × (d : ℕ → ℕ) × LevelPre G m n s at d w start stop mark
+LevelAsks m n s tail w start stop mark = (G : Graph) × (d : ℕ → ℕ) × LevelPre G m n s tail d w start stop mark
 
 abbrev pub LevelGives : ℕ → ℕ → ℕ → ℕ → ℕ → List ℕ → List ℕ → List ℕ → List ℕ → List ℕ → List ℕ → List ℕ → Type 0
-LevelGives m n s at r w w′ start stop stop′ mark mark′ =
-    (G : Graph) (d : ℕ → ℕ) → LevelPre G m n s at d w start stop mark → (d′ : ℕ → ℕ) × Drained G m s r d′ w w′ start stop′ mark′
+LevelGives m n s tail r w w′ start stop stop′ mark mark′ =
+    (G : Graph) (d : ℕ → ℕ) → LevelPre G m n s tail d w start stop mark → (d′ : ℕ → ℕ) × Drained G m s r d′ w w′ start stop′ mark′
 
-module _ {G : Graph} {m n s at : ℕ} {d : ℕ → ℕ} {w start stop mark : List ℕ} (P : LevelPre G m n s at d w start stop mark) where
-  begun : Level G m s None 0 0 d w
+module _ {G : Graph} {m n s head : ℕ} {d : ℕ → ℕ} {w start stop mark : List ℕ} (P : LevelPre G m n s head d w start stop mark) where
+  begun : Level G m s None head head d w
   begun = level-start (P .named) d (P .ready) s (omega arith) (P .least)
 
-  pub level-seeds : SeedPre G m n s d w start stop
+  pub level-seeds : SeedPre G m n s head d w start stop
   level-seeds = record { named = P .named; left = P .left; small = P .small; busy = λ y l t z. omega (arith, P .least y l t, z, P .some); queue = begun .queue }
 
-  pub level-drain : {tail : ℕ} {w₁ : List ℕ} → Seeding G m s All tail d w w₁ → DrainPre G m n s at tail d w₁ start stop mark
+  pub level-drain : {tail : ℕ} {w₁ : List ℕ} → Seeding G m s All head tail d w w₁ → DrainPre G m n s head tail d w₁ start stop mark
   level-drain {tail} {w₁} p = record {
     named = named-kept (P .named) (p .kept);
     left = seeding-left (P .named) (P .left) p;
-    marked = marked-falls (P .named) (λ y l n z. n (p .supports y l ∙ z)) (P .marked);
+    stamps = P .stamps;
     small = P .small;
     level = level-seeded begun p;
   }
 
-  pub level-done : {tail r : ℕ} {d′ : ℕ → ℕ} {w₁ w₂ stop′ mark′ : List ℕ} → Seeding G m s All tail d w w₁ → Drained G m s r d′ w₁ w₂ start stop′ mark′
+  pub level-done : {tail r : ℕ} {d′ : ℕ → ℕ} {w₁ w₂ stop′ mark′ : List ℕ} → Seeding G m s All head tail d w w₁ → Drained G m s r d′ w₁ w₂ start stop′ mark′
       → Drained G m s r d′ w w₂ start stop′ mark′
-  level-done p e = record { ready = e .ready; above = e .above; held = held-trans (kept-held (p .kept)) (e .held); left = e .left; marked = e .marked }
+  level-done p e = record { ready = e .ready; above = e .above; held = held-trans (kept-held (p .kept)) (e .held); left = e .left; stamps = e .stamps }
 
 -- ---- all levels, from the first count and the strengths of the links in no triangle
 
-pub record LevelsPre (G : Graph) (m n : ℕ) (w start stop mark : List ℕ) : Type 0 where
+pub record LevelsPre (G : Graph) (m n tail : ℕ) (w start stop mark : List ℕ) : Type 0 where
   pub named : Named G m n w
   pub left : Left G m w start stop
-  pub marked : Marked G m n w mark
+  pub stamps : Stamps G mark
+  pub line : Line m tail (cell w m STRENGTH) (cell w m QUEUE)
   pub triangles : (y : ℕ) → y < m → cell w m SUPPORT y ≡ support (G .n) (whole G) (linkAt G y)
   pub lone : (y : ℕ) → y < m → cell w m SUPPORT y ≡ 0 → cell w m STRENGTH y ≡ 2
   pub shared : (y : ℕ) → y < m → cell w m SUPPORT y ≢ 0 → cell w m STRENGTH y ≡ 0
 
-pub record Peeling (G : Graph) (m s at : ℕ) (d : ℕ → ℕ) (w₀ w start stop mark : List ℕ) : Type 0 where
-  pub ready : Ready G m (s + 2) d w
+pub record Peeling (G : Graph) (m s tail : ℕ) (d : ℕ → ℕ) (w₀ w start stop mark : List ℕ) : Type 0 where
+  pub ready : Ready G m (s + 2) tail d w
   pub some : 1 ≤ s
   pub least : (y : ℕ) → y < m → cell w m STRENGTH y ≡ 0 → s ≤ cell w m SUPPORT y
   pub held : Held m FREE w₀ w
   pub left : Left G m w start stop
-  pub marked : Marked G m at w mark
+  pub stamps : Stamps G mark
 
 -- column 4 has the strengths, column 3 is used up
 pub record Peeled (G : Graph) (m : ℕ) (w₀ w : List ℕ) : Type 0 where
@@ -84,17 +86,18 @@ pub record Peeled (G : Graph) (m : ℕ) (w₀ w : List ℕ) : Type 0 where
   pub supports : (y : ℕ) → y < m → cell w m SUPPORT y ≡ 0
   pub held : Held m FREE w₀ w
 
-abbrev pub LevelsAsk : ℕ → ℕ → List ℕ → List ℕ → List ℕ → List ℕ → Type 0
-LevelsAsk m n w start stop mark = (G : Graph) × LevelsPre G m n w start stop mark
+abbrev pub LevelsAsk : ℕ → ℕ → ℕ → List ℕ → List ℕ → List ℕ → List ℕ → Type 0
+LevelsAsk m n tail w start stop mark = (G : Graph) × LevelsPre G m n tail w start stop mark
 
-abbrev pub LevelsTurn : ℕ → ℕ → ℕ → ℕ → List ℕ → List ℕ → List ℕ → List ℕ → List ℕ → List ℕ → List ℕ → Type 0
-LevelsTurn m n s at w₀ w start stop₀ stop mark₀ mark = (G : Graph) → LevelsPre G m n w₀ start stop₀ mark₀ → (d : ℕ → ℕ) × Peeling G m s at d w₀ w start stop mark
+abbrev pub LevelsTurn : ℕ → ℕ → ℕ → ℕ → ℕ → List ℕ → List ℕ → List ℕ → List ℕ → List ℕ → List ℕ → List ℕ → Type 0
+LevelsTurn m n s tail₀ tail w₀ w start stop₀ stop mark₀ mark = (G : Graph) → LevelsPre G m n tail₀ w₀ start stop₀ mark₀ → (d : ℕ → ℕ) × Peeling G m s tail d w₀ w start stop mark
 
-abbrev pub LevelsGive : ℕ → ℕ → List ℕ → List ℕ → List ℕ → List ℕ → List ℕ → Type 0
-LevelsGive m n w₀ w start stop₀ mark₀ = (G : Graph) → LevelsPre G m n w₀ start stop₀ mark₀ → Peeled G m w₀ w
+abbrev pub LevelsGive : ℕ → ℕ → ℕ → List ℕ → List ℕ → List ℕ → List ℕ → List ℕ → Type 0
+LevelsGive m n tail₀ w₀ w start stop₀ mark₀ = (G : Graph) → LevelsPre G m n tail₀ w₀ start stop₀ mark₀ → Peeled G m w₀ w
 
-raised : {G : Graph} {m k : ℕ} (k′ : ℕ) {d : ℕ → ℕ} {w : List ℕ} → k ≤ k′ → Ready G m k d w → Ready G m k′ d w
+raised : {G : Graph} {m k : ℕ} (k′ : ℕ) {tail : ℕ} {d : ℕ → ℕ} {w : List ℕ} → k ≤ k′ → Ready G m k tail d w → Ready G m k′ tail d w
 raised {G} {m} {k} k′ l R = record {
+  line = R .line;
   ended = R .ended;
   finished = R .finished;
   gone = R .gone;
@@ -103,37 +106,37 @@ raised {G} {m} {k} k′ l R = record {
   covers = λ e h. R .covers e (truss-nested G k k′ l e h);
 }
 
-module _ {G : Graph} {m n : ℕ} {w₀ start stop₀ mark₀ : List ℕ} (P : LevelsPre G m n w₀ start stop₀ mark₀) where
-  pub levels-start : {s : ℕ} → Least m m s w₀ → (d : ℕ → ℕ) × Peeling G m s n d w₀ w₀ start stop₀ mark₀
+module _ {G : Graph} {m n tail₀ : ℕ} {w₀ start stop₀ mark₀ : List ℕ} (P : LevelsPre G m n tail₀ w₀ start stop₀ mark₀) where
+  pub levels-start : {s : ℕ} → Least m m s w₀ → (d : ℕ → ℕ) × Peeling G m s tail₀ d w₀ w₀ start stop₀ mark₀
   levels-start {s} L = (
     given m w₀,
     record {
-      ready = raised (s + 2) (omega (arith, up)) (ready-bare (P .named) (P .triangles) (P .lone) (P .shared));
+      ready = raised (s + 2) (omega (arith, up)) (ready-bare (P .named) (P .triangles) (P .lone) (P .shared) (P .line));
       some = up;
       least = L .low;
       held = held-none m FREE w₀;
       left = P .left;
-      marked = P .marked;
+      stamps = P .stamps;
     },
   )
     where
       up : 1 ≤ s
       up = L .greatest 1 (omega arith) (some (P .named) (P .triangles) (P .lone) (P .shared))
 
-  module _ {s at : ℕ} {d : ℕ → ℕ} {w stop mark : List ℕ} (D : Peeling G m s at d w₀ w start stop mark) where
-    pub levels-level : s < noSupport → LevelPre G m n s at d w start stop mark
+  module _ {s tail : ℕ} {d : ℕ → ℕ} {w stop mark : List ℕ} (D : Peeling G m s tail d w₀ w start stop mark) where
+    pub levels-level : s < noSupport → LevelPre G m n s tail d w start stop mark
     levels-level l = record {
       named = named-held (P .named) (D .held);
       left = D .left;
-      marked = D .marked;
+      stamps = D .stamps;
       small = omega arith;
       some = D .some;
       ready = D .ready;
       least = D .least;
     }
 
-    pub levels-next : {s′ at′ : ℕ} {d′ : ℕ → ℕ} {w′ stop′ mark′ : List ℕ} → s < noSupport → Drained G m s at′ d′ w w′ start stop′ mark′ → Least m m s′ w′
-        → Peeling G m s′ at′ d′ w₀ w′ start stop′ mark′
+    pub levels-next : {s′ tail′ : ℕ} {d′ : ℕ → ℕ} {w′ stop′ mark′ : List ℕ} → s < noSupport → Drained G m s tail′ d′ w w′ start stop′ mark′ → Least m m s′ w′
+        → Peeling G m s′ tail′ d′ w₀ w′ start stop′ mark′
     levels-next {s′} l e L =
         let up : s + 1 ≤ s′ = L .greatest (s + 1) (omega arith) (e .above) in
         record {
@@ -142,7 +145,7 @@ module _ {G : Graph} {m n : ℕ} {w₀ start stop₀ mark₀ : List ℕ} (P : Le
           least = L .low;
           held = held-trans (D .held) (e .held);
           left = e .left;
-          marked = e .marked;
+          stamps = e .stamps;
         }
 
     pub levels-end : noSupport ≤ s → Peeled G m w₀ w
@@ -198,20 +201,21 @@ pub ended-all : {a n : ℕ} {start stop₀ stop : List ℕ} → a ≡ n → Ende
 ended-all q h = rw q at h
 
 module _ {G : Graph} {m n : ℕ} {w start mark : List ℕ} (P : PeelPre G m n w start mark) where
-  module _ {stop₀ stop : List ℕ} (wide : length stop₀ ≡ n) (E : Ended n start stop₀ stop) {w₁ : List ℕ} (B : Bare m m w w₁) where
-    pub peel-levels : LevelsPre G m n w₁ start stop mark
+  module _ {stop₀ stop : List ℕ} (wide : length stop₀ ≡ n) (E : Ended n start stop₀ stop) {tail : ℕ} {w₁ : List ℕ} (B : Bare m m tail w w₁) where
+    pub peel-levels : LevelsPre G m n tail w₁ start stop mark
     peel-levels = record {
       named = named-kept (P .named) (B .kept);
       left =
           left-kept (P .named) (left-whole (P .near) (E .same ∙ wide ∙ sym (P .named .accounts)) (λ a l. E .is a (omega (arith, P .named .accounts)))) (B .kept .entries) (λ y l n z.
           n (B .supports y l ∙ z));
-      marked = marked-first (named-kept (P .named) (B .kept)) (P .marks);
+      stamps = stamps-first (P .named) (P .marks);
+      line = B .line;
       triangles = λ y l. B .supports y l ∙ P .triangles y l;
       lone = B .lone;
       shared = B .shared;
     }
 
-  pub peel-done : {w₁ w₂ w₃ mark₁ mark₂ : List ℕ} → Bare m m w w₁ → Peeled G m w₁ w₂ → Wiping m QUEUE m w₂ w₃ → Zeroed n mark₁ mark₂ → PeelDone G m n w w₃ mark₂
+  pub peel-done : {tail : ℕ} {w₁ w₂ w₃ mark₁ mark₂ : List ℕ} → Bare m m tail w w₁ → Peeled G m w₁ w₂ → Wiping m QUEUE m w₂ w₃ → Zeroed n mark₁ mark₂ → PeelDone G m n w w₃ mark₂
   peel-done B R U Z = record {
     strengths = λ y l. U .others STRENGTH y (omega arith) l ∙ R .strengths y l;
     supports = λ y l. U .others SUPPORT y (omega arith) l ∙ R .supports y l;

@@ -20,7 +20,7 @@ use Rattle.removal.specs.State.{All, None, Waiting, Level}
 
 -- ---- one entry of account a
 
-pub record EntryPre (G : Graph) (m n a i x s tail : ℕ) (d : ℕ → ℕ) (w start stop : List ℕ) : Type 0 where
+pub record EntryPre (G : Graph) (m n a i x s head tail : ℕ) (d : ℕ → ℕ) (w start stop : List ℕ) : Type 0 where
   pub named : Named G m n w
   pub left : Left G m w start stop
   pub here : a < G .n
@@ -28,10 +28,10 @@ pub record EntryPre (G : Graph) (m n a i x s tail : ℕ) (d : ℕ → ℕ) (w st
   pub to : i < startAt stop a
   pub is : x ≡ entry w m i
   pub small : s < noSupport
-  pub queue : Waiting G m s None 0 tail d w
+  pub queue : Waiting G m s None head tail d w
 
 abbrev pub EntryAsks : ℕ → ℕ → ℕ → ℕ → ℕ → List ℕ → List ℕ → Type 0
-EntryAsks m a x s tail w start = (G : Graph) × (n : ℕ) × (i : ℕ) × (d : ℕ → ℕ) × (stop : List ℕ) × EntryPre G m n a i x s tail d w start stop
+EntryAsks m a x s tail w start = (G : Graph) × (n : ℕ) × (i : ℕ) × (head : ℕ) × (d : ℕ → ℕ) × (stop : List ℕ) × EntryPre G m n a i x s head tail d w start stop
 
 -- the link has its place already or is above the level; a is not its centre; it goes into the queue
 pub data Seeded (m a x s tail r : ℕ) (w w′ start : List ℕ) : Type 0 where
@@ -40,7 +40,7 @@ pub data Seeded (m a x s tail r : ℕ) (w w′ start : List ℕ) : Type 0 where
   joins : cell w m STRENGTH (x % HALF) ≡ 0 → cell w m SUPPORT (x % HALF) ≤ s → r ≡ tail + 1
       → w′ ≡ store (store w m STRENGTH (x % HALF) (s + 2)) m QUEUE tail (x % HALF) → Seeded m a x s tail r w w′ start
 
-module _ {G : Graph} {m n a i x s tail : ℕ} {d : ℕ → ℕ} {w start stop : List ℕ} (P : EntryPre G m n a i x s tail d w start stop) where
+module _ {G : Graph} {m n a i x s head tail : ℕ} {d : ℕ → ℕ} {w start stop : List ℕ} (P : EntryPre G m n a i x s head tail d w start stop) where
   linked : whole G (link a (x / HALF)) ≡ true
   linked = rw (P .is) (P .left .holds a i (P .here) (P .from) (P .to))
 
@@ -62,38 +62,38 @@ module _ {G : Graph} {m n a i x s tail : ℕ} {d : ℕ → ℕ} {w start stop : 
 abbrev pub Busy : ℕ → List ℕ → Type 0
 Busy m w = (y : ℕ) → y < m → cell w m STRENGTH y ≡ 0 → cell w m SUPPORT y ≢ 0
 
-pub record Seeding (G : Graph) (m s : ℕ) (Met : ℕ → Type 0) (tail : ℕ) (d : ℕ → ℕ) (w₀ w : List ℕ) : Type 0 where
+pub record Seeding (G : Graph) (m s : ℕ) (Met : ℕ → Type 0) (head tail : ℕ) (d : ℕ → ℕ) (w₀ w : List ℕ) : Type 0 where
   pub kept : Kept m FREE w₀ w
   pub supports : Same m (cell w₀ m SUPPORT) (cell w m SUPPORT)
   pub busy : Busy m w
-  pub queue : Waiting G m s Met 0 tail d w
+  pub queue : Waiting G m s Met head tail d w
 
-pub seeding-met : {G : Graph} {m s : ℕ} {Met Met′ : ℕ → Type 0} {tail : ℕ} {d : ℕ → ℕ} {w₀ w : List ℕ} → Seeding G m s Met tail d w₀ w
-    → ((y : ℕ) → y < m → Met′ y → Met y) → Seeding G m s Met′ tail d w₀ w
+pub seeding-met : {G : Graph} {m s : ℕ} {Met Met′ : ℕ → Type 0} {head tail : ℕ} {d : ℕ → ℕ} {w₀ w : List ℕ} → Seeding G m s Met head tail d w₀ w
+    → ((y : ℕ) → y < m → Met′ y → Met y) → Seeding G m s Met′ head tail d w₀ w
 seeding-met S h = record { kept = S .kept; supports = S .supports; busy = S .busy; queue = queue-met (S .queue) (λ y l r. inl (h y l r)) }
 
-pub seeding-left : {G : Graph} {m n s : ℕ} {Met : ℕ → Type 0} {tail : ℕ} {d : ℕ → ℕ} {w₀ w start stop : List ℕ} → Named G m n w₀ → Left G m w₀ start stop
-    → Seeding G m s Met tail d w₀ w → Left G m w start stop
+pub seeding-left : {G : Graph} {m n s : ℕ} {Met : ℕ → Type 0} {head tail : ℕ} {d : ℕ → ℕ} {w₀ w start stop : List ℕ} → Named G m n w₀ → Left G m w₀ start stop
+    → Seeding G m s Met head tail d w₀ w → Left G m w start stop
 seeding-left N L S = left-kept N L (S .kept .entries) (λ y l n z. n (S .supports y l ∙ z))
 
 module _ (m e s tail : ℕ) (w : List ℕ) (size : length w ≡ COLUMNS * m) (below : e < m) (room : tail < m) where
   pub push-supports : Same m (cell w m SUPPORT) (cell (store (store w m STRENGTH e (s + 2)) m QUEUE tail e) m SUPPORT)
   push-supports = same-trans (same-store w m STRENGTH SUPPORT e (s + 2) (omega arith) below) (same-store (store w m STRENGTH e (s + 2)) m QUEUE SUPPORT tail e (omega arith) room)
 
-  push-strengths : Upd m (cell w m STRENGTH) (cell (store (store w m STRENGTH e (s + 2)) m QUEUE tail e) m STRENGTH) e (s + 2)
+  pub push-strengths : Upd m (cell w m STRENGTH) (cell (store (store w m STRENGTH e (s + 2)) m QUEUE tail e) m STRENGTH) e (s + 2)
   push-strengths = upd-then below (upd-store w m STRENGTH e (s + 2) (omega arith) below size) (same-store (store w m STRENGTH e (s + 2)) m QUEUE STRENGTH tail e (omega arith) room)
 
-  push-queue : Upd m (cell w m QUEUE) (cell (store (store w m STRENGTH e (s + 2)) m QUEUE tail e) m QUEUE) tail e
+  pub push-queue : Upd m (cell w m QUEUE) (cell (store (store w m STRENGTH e (s + 2)) m QUEUE tail e) m QUEUE) tail e
   push-queue =
       then-upd (same-store w m STRENGTH QUEUE e (s + 2) (omega arith) below)
       (upd-store (store w m STRENGTH e (s + 2)) m QUEUE tail e (omega arith) room (length-store w m STRENGTH e (s + 2) ∙ size))
 
-  push-kept : Kept m FREE w (store (store w m STRENGTH e (s + 2)) m QUEUE tail e)
+  pub push-kept : Kept m FREE w (store (store w m STRENGTH e (s + 2)) m QUEUE tail e)
   push-kept = kept-trans (kept-store w m FREE STRENGTH e (s + 2) (omega arith) (omega arith) below) (kept-store (store w m STRENGTH e (s + 2)) m FREE QUEUE tail e (omega arith) (omega arith) room)
 
   -- link e goes into the queue
-  pub pushed : {G : Graph} {Met Met′ : ℕ → Type 0} {d : ℕ → ℕ} {w₀ : List ℕ} → Seeding G m s Met tail d w₀ w → cell w m STRENGTH e ≡ 0 → cell w m SUPPORT e ≤ s
-      → ((y : ℕ) → y < m → Met′ y → Met y ⊎ (y ≡ e)) → Seeding G m s Met′ (tail + 1) d w₀ (store (store w m STRENGTH e (s + 2)) m QUEUE tail e)
+  pub pushed : {G : Graph} {Met Met′ : ℕ → Type 0} {head : ℕ} {d : ℕ → ℕ} {w₀ : List ℕ} → Seeding G m s Met head tail d w₀ w → cell w m STRENGTH e ≡ 0 → cell w m SUPPORT e ≤ s
+      → ((y : ℕ) → y < m → Met′ y → Met y ⊎ (y ≡ e)) → Seeding G m s Met′ head (tail + 1) d w₀ (store (store w m STRENGTH e (s + 2)) m QUEUE tail e)
   pushed S z l cases = record {
     kept = kept-trans (S .kept) push-kept;
     supports = same-trans (S .supports) push-supports;
@@ -112,27 +112,27 @@ module _ (m e s tail : ℕ) (w : List ℕ) (size : length w ≡ COLUMNS * m) (be
 
 -- ---- all entries of account a
 
-pub record AccountPre (G : Graph) (m n a s tail : ℕ) (d : ℕ → ℕ) (w start stop : List ℕ) : Type 0 where
+pub record AccountPre (G : Graph) (m n a s head tail : ℕ) (d : ℕ → ℕ) (w start stop : List ℕ) : Type 0 where
   pub named : Named G m n w
   pub left : Left G m w start stop
   pub here : a < G .n
   pub small : s < noSupport
   pub busy : Busy m w
-  pub queue : Waiting G m s (Past G start a) 0 tail d w
+  pub queue : Waiting G m s (Past G start a) head tail d w
 
 abbrev pub AccountAsks : ℕ → ℕ → ℕ → ℕ → ℕ → List ℕ → List ℕ → List ℕ → Type 0
-AccountAsks m n a s tail w start stop = (G : Graph) × (d : ℕ → ℕ) × AccountPre G m n a s tail d w start stop
+AccountAsks m n a s tail w start stop = (G : Graph) × (head : ℕ) × (d : ℕ → ℕ) × AccountPre G m n a s head tail d w start stop
 
 abbrev pub AccountTurns : ℕ → ℕ → ℕ → ℕ → ℕ → ℕ → ℕ → List ℕ → List ℕ → List ℕ → List ℕ → Type 0
 AccountTurns m n a i s tail₀ tail w₀ w start stop =
-    (G : Graph) (d : ℕ → ℕ) → AccountPre G m n a s tail₀ d w₀ start stop → Seeding G m s (Now G m w₀ start a i) tail d w₀ w
+    (G : Graph) (head : ℕ) (d : ℕ → ℕ) → AccountPre G m n a s head tail₀ d w₀ start stop → Seeding G m s (Now G m w₀ start a i) head tail d w₀ w
 
 abbrev pub AccountGives : ℕ → ℕ → ℕ → ℕ → ℕ → ℕ → List ℕ → List ℕ → List ℕ → List ℕ → Type 0
 AccountGives m n a s tail₀ tail w₀ w start stop =
-    (G : Graph) (d : ℕ → ℕ) → AccountPre G m n a s tail₀ d w₀ start stop → Seeding G m s (Past G start (a + 1)) tail d w₀ w
+    (G : Graph) (head : ℕ) (d : ℕ → ℕ) → AccountPre G m n a s head tail₀ d w₀ start stop → Seeding G m s (Past G start (a + 1)) head tail d w₀ w
 
-module _ {G : Graph} {m n a s tail₀ : ℕ} {d : ℕ → ℕ} {w₀ start stop : List ℕ} (P : AccountPre G m n a s tail₀ d w₀ start stop) where
-  pub account-start : Seeding G m s (Now G m w₀ start a (startAt start a)) tail₀ d w₀ w₀
+module _ {G : Graph} {m n a s head tail₀ : ℕ} {d : ℕ → ℕ} {w₀ start stop : List ℕ} (P : AccountPre G m n a s head tail₀ d w₀ start stop) where
+  pub account-start : Seeding G m s (Now G m w₀ start a (startAt start a)) head tail₀ d w₀ w₀
   account-start = record {
     kept = kept-none m FREE w₀;
     supports = λ y l. refl;
@@ -140,7 +140,7 @@ module _ {G : Graph} {m n a s tail₀ : ℕ} {d : ℕ → ℕ} {w₀ start stop 
     queue = queue-met (P .queue) (λ y l h. inl (Rattle.adjacency.specs.Centres.now-begin h));
   }
 
-  module _ {i tail : ℕ} {w : List ℕ} (S : Seeding G m s (Now G m w₀ start a i) tail d w₀ w) (from : startAt start a ≤ i) (to : i < startAt stop a) where
+  module _ {i tail : ℕ} {w : List ℕ} (S : Seeding G m s (Now G m w₀ start a i) head tail d w₀ w) (from : startAt start a ≤ i) (to : i < startAt stop a) where
     pub account-fits : i < 2 * m
     account-fits = left-fits (P .named) (P .left) (P .here) i from to
 
@@ -148,7 +148,7 @@ module _ {G : Graph} {m n a s tail₀ : ℕ} {d : ℕ → ℕ} {w₀ start stop 
     account-size = S .kept .length-is ∙ P .named .size
 
     module _ {x : ℕ} (is : x ≡ entry w m i) where
-      pub account-entry : EntryPre G m n a i x s tail d w start stop
+      pub account-entry : EntryPre G m n a i x s head tail d w start stop
       account-entry = record {
         named = named-kept (P .named) (S .kept);
         left = seeding-left (P .named) (P .left) S;
@@ -171,7 +171,7 @@ module _ {G : Graph} {m n a s tail₀ : ℕ} {d : ℕ → ℕ} {w₀ start stop 
           go (inl k) = inl k
           go (inr k) = inr (k .1 ∙ sym (P .left .number-is a i (P .here) from to) ∙ ap (λ (z : ℕ). z % HALF) (sym x-is))
 
-      pub account-next : {r : ℕ} {w′ : List ℕ} → Seeded m a x s tail r w w′ start → Seeding G m s (Now G m w₀ start a (i + 1)) r d w₀ w′
+      pub account-next : {r : ℕ} {w′ : List ℕ} → Seeded m a x s tail r w w′ start → Seeding G m s (Now G m w₀ start a (i + 1)) head r d w₀ w′
       account-next (stays h rt wt) =
           rw (rt, wt) (record { kept = S .kept; supports = S .supports; busy = S .busy; queue = queue-looked (S .queue) (x % HALF) h cases })
       account-next (elsewhere h rt wt) = rw (rt, wt) (seeding-met S (λ y l k. go (now-split k)))
@@ -185,8 +185,8 @@ module _ {G : Graph} {m n a s tail₀ : ℕ} {d : ℕ → ℕ} {w₀ start stop 
       account-next (joins z l rt wt) =
           rw (rt, wt) (pushed m (x % HALF) s tail w account-size (entry-link account-entry) (entry-room account-entry z) S z l cases)
 
-  pub account-end : {i tail : ℕ} {w : List ℕ} → i ≡ startAt stop a → Seeding G m s (Now G m w₀ start a i) tail d w₀ w
-      → Seeding G m s (Past G start (a + 1)) tail d w₀ w
+  pub account-end : {i tail : ℕ} {w : List ℕ} → i ≡ startAt stop a → Seeding G m s (Now G m w₀ start a i) head tail d w₀ w
+      → Seeding G m s (Past G start (a + 1)) head tail d w₀ w
   account-end {i} {tail} {w} e S = record { kept = S .kept; supports = S .supports; busy = S .busy; queue = queue-met (S .queue) (λ y l h. met y l h (same-or-not (cell w₀ m SUPPORT y) 0)) }
     where
       met : (y : ℕ) → y < m → Past G start (a + 1) y → (cell w₀ m SUPPORT y ≡ 0) ⊎ (cell w₀ m SUPPORT y ≢ 0)
@@ -197,24 +197,24 @@ module _ {G : Graph} {m n a s tail₀ : ℕ} {d : ℕ → ℕ} {w₀ start stop 
 
 -- ---- all accounts
 
-pub record SeedPre (G : Graph) (m n s : ℕ) (d : ℕ → ℕ) (w start stop : List ℕ) : Type 0 where
+pub record SeedPre (G : Graph) (m n s head : ℕ) (d : ℕ → ℕ) (w start stop : List ℕ) : Type 0 where
   pub named : Named G m n w
   pub left : Left G m w start stop
   pub small : s < noSupport
   pub busy : Busy m w
-  pub queue : Waiting G m s None 0 0 d w
+  pub queue : Waiting G m s None head head d w
 
-abbrev pub SeedAsks : ℕ → ℕ → ℕ → List ℕ → List ℕ → List ℕ → Type 0
-SeedAsks m n s w start stop = (G : Graph) × (d : ℕ → ℕ) × SeedPre G m n s d w start stop
+abbrev pub SeedAsks : ℕ → ℕ → ℕ → ℕ → List ℕ → List ℕ → List ℕ → Type 0
+SeedAsks m n s head w start stop = (G : Graph) × (d : ℕ → ℕ) × SeedPre G m n s head d w start stop
 
-abbrev pub SeedTurns : ℕ → ℕ → ℕ → ℕ → ℕ → List ℕ → List ℕ → List ℕ → List ℕ → Type 0
-SeedTurns m n a s tail w₀ w start stop = (G : Graph) (d : ℕ → ℕ) → SeedPre G m n s d w₀ start stop → Seeding G m s (Past G start a) tail d w₀ w
+abbrev pub SeedTurns : ℕ → ℕ → ℕ → ℕ → ℕ → ℕ → List ℕ → List ℕ → List ℕ → List ℕ → Type 0
+SeedTurns m n a s head tail w₀ w start stop = (G : Graph) (d : ℕ → ℕ) → SeedPre G m n s head d w₀ start stop → Seeding G m s (Past G start a) head tail d w₀ w
 
-abbrev pub SeedGives : ℕ → ℕ → ℕ → ℕ → List ℕ → List ℕ → List ℕ → List ℕ → Type 0
-SeedGives m n s tail w₀ w start stop = (G : Graph) (d : ℕ → ℕ) → SeedPre G m n s d w₀ start stop → Seeding G m s All tail d w₀ w
+abbrev pub SeedGives : ℕ → ℕ → ℕ → ℕ → ℕ → List ℕ → List ℕ → List ℕ → List ℕ → Type 0
+SeedGives m n s head tail w₀ w start stop = (G : Graph) (d : ℕ → ℕ) → SeedPre G m n s head d w₀ start stop → Seeding G m s All head tail d w₀ w
 
-module _ {G : Graph} {m n s : ℕ} {d : ℕ → ℕ} {w₀ start stop : List ℕ} (P : SeedPre G m n s d w₀ start stop) where
-  pub seed-start : Seeding G m s (Past G start 0) 0 d w₀ w₀
+module _ {G : Graph} {m n s head : ℕ} {d : ℕ → ℕ} {w₀ start stop : List ℕ} (P : SeedPre G m n s head d w₀ start stop) where
+  pub seed-start : Seeding G m s (Past G start 0) head head d w₀ w₀
   seed-start = record {
     kept = kept-none m FREE w₀;
     supports = λ y l. refl;
@@ -222,8 +222,8 @@ module _ {G : Graph} {m n s : ℕ} {d : ℕ → ℕ} {w₀ start stop : List ℕ
     queue = queue-met (P .queue) (λ y l h. absurd (omega (arith, h .early)));
   }
 
-  module _ {a tail : ℕ} {w : List ℕ} (S : Seeding G m s (Past G start a) tail d w₀ w) where
-    pub seed-account : a < n → AccountPre G m n a s tail d w start stop
+  module _ {a tail : ℕ} {w : List ℕ} (S : Seeding G m s (Past G start a) head tail d w₀ w) where
+    pub seed-account : a < n → AccountPre G m n a s head tail d w start stop
     seed-account l = record {
       named = named-kept (P .named) (S .kept);
       left = seeding-left (P .named) (P .left) S;
@@ -233,14 +233,14 @@ module _ {G : Graph} {m n s : ℕ} {d : ℕ → ℕ} {w₀ start stop : List ℕ
       queue = S .queue;
     }
 
-    pub seed-next : {r : ℕ} {w′ : List ℕ} → Seeding G m s (Past G start (a + 1)) r d w w′ → Seeding G m s (Past G start (a + 1)) r d w₀ w′
+    pub seed-next : {r : ℕ} {w′ : List ℕ} → Seeding G m s (Past G start (a + 1)) head r d w w′ → Seeding G m s (Past G start (a + 1)) head r d w₀ w′
     seed-next T = record { kept = kept-trans (S .kept) (T .kept); supports = same-trans (S .supports) (T .supports); busy = T .busy; queue = T .queue }
 
-    pub seed-end : n ≤ a → Seeding G m s All tail d w₀ w
+    pub seed-end : n ≤ a → Seeding G m s All head tail d w₀ w
     seed-end la = seeding-met S (λ y l h. past-all start (P .named) a la y l)
 
 -- the level is then whole
-pub level-seeded : {G : Graph} {m s tail : ℕ} {d : ℕ → ℕ} {w₀ w : List ℕ} → Level G m s None 0 0 d w₀ → Seeding G m s All tail d w₀ w → Level G m s All 0 tail d w
+pub level-seeded : {G : Graph} {m s head tail : ℕ} {d : ℕ → ℕ} {w₀ w : List ℕ} → Level G m s None head head d w₀ → Seeding G m s All head tail d w₀ w → Level G m s All head tail d w
 level-seeded L S = record { queue = S .queue; supports = λ y l z. S .supports y l ∙ L .supports y l z; covers = L .covers }
 
 -- ---- the least support of the links that are in no queue; more than any if there is none

@@ -3,7 +3,7 @@ ghost use mathlib.Core.Path.{_≡_};
 ghost use Prim.Native.Nat.{_+_, _*_, _<_, _≤_};
 ghost use lib.ListN.{length};
 ghost use Rattle.peeling.specs.Bare.{Bared, Bare};
-ghost use Rattle.peeling.specs.Drain.{DrainAsks, DrainGives};
+ghost use Rattle.peeling.specs.Drain.{Pending, Finished, DrainAsks, DrainGives};
 ghost use Rattle.peeling.specs.Seed.{Least, LeastStep};
 ghost use Rattle.peeling.specs.Peel.{LevelAsks, LevelGives, LevelsAsk, LevelsGive, Ended, PeelAsks, PeelInAsks, PeelGives};
 ghost use Rattle.columns.specs.Columns.{COLUMNS, mostLinks, mostAccounts};
@@ -17,6 +17,7 @@ use columns::get;
 use columns::put;
 use columns::wipe;
 use removal::centre::turn_to;
+use removal::queue::push;
 use removal::remove::remove;
 
 // The lesser of `best` and the support of link e, if it is in no queue.
@@ -49,7 +50,28 @@ fn least(w: &[u32], m: usize) -> usize
     best
 }
 
-// Removes all links that wait, and those that fall to s. Gives the account that the marks are at.
+// Where the links that wait end in the queue. Once every link is in it, nowhere: no triangle has to be taken off any more.
+fn pending(m: usize, tail: usize) -> usize
+    ensures { λ r. ⌜ Pending m tail r ⌝ }
+{
+    if tail < m {
+        return tail;
+    }
+    0
+}
+
+// The supports are wiped if every link is in the queue.
+fn finish(w: &mut [u32], m: usize, tail: usize)
+    requires { ⌜ length (now w) ≡ COLUMNS * m ⌝ }
+    requires { ⌜ m ≤ mostLinks ⌝ }
+    ensures { λ _. ⌜ Finished m tail (now (w .entry)) (now (w .exit)) ⌝ }
+{
+    if m <= tail {
+        wipe(w, m, SUPPORT);
+    }
+}
+
+// Removes all links that wait, and those that fall to s, until every link is in the queue. Gives how many are in it.
 fn drain(
     w: &mut [u32],
     m: usize,
@@ -64,41 +86,22 @@ fn drain(
     requires { ⌜ DrainAsks m n s from until (now w) (now start) (now stop) (now mark) ⌝ }
     ensures { λ r. ⌜ DrainGives m n s from until r (now (w .entry)) (now (w .exit)) (now (start .entry)) (now (stop .entry)) (now (stop .exit)) (now (mark .entry)) (now (mark .exit)) ⌝ }
 {
-    let mut head: usize = 0;
+    let mut head = from;
     let mut tail = until;
-    let mut at = from;
-    while head < tail {
+    let mut end = pending(m, tail);
+    let mut at = n;
+    while head < end {
         let e = get(w, m, QUEUE, head);
         at = turn_to(w, m, n, start, stop, mark, e, at);
         tail = remove(w, m, n, start, stop, mark, e, at, s, tail);
+        end = pending(m, tail);
         head += 1;
     }
-    at
+    finish(w, m, tail);
+    tail
 }
 
-// Removes all links that wait, and those that fall to s. Where no link is left that is in no queue, there is no support to be kept.
-fn settle(
-    w: &mut [u32],
-    m: usize,
-    n: usize,
-    start: &[u32],
-    stop: &mut [u32],
-    mark: &mut [u32],
-    s: usize,
-    at: usize,
-    tail: usize,
-) -> usize
-    requires { ⌜ DrainAsks m n s at tail (now w) (now start) (now stop) (now mark) ⌝ }
-    ensures { λ r. ⌜ DrainGives m n s at tail r (now (w .entry)) (now (w .exit)) (now (start .entry)) (now (stop .entry)) (now (stop .exit)) (now (mark .entry)) (now (mark .exit)) ⌝ }
-{
-    if least(w, m) == NO_SUPPORT {
-        wipe(w, m, SUPPORT);
-        return at;
-    }
-    drain(w, m, n, start, stop, mark, s, at, tail)
-}
-
-// Removes the links of the least support s there is, and those that fall to it.
+// Removes the links of the least support s there is, and those that fall to it. Gives how many links are in the queue.
 fn level(
     w: &mut [u32],
     m: usize,
@@ -107,50 +110,62 @@ fn level(
     stop: &mut [u32],
     mark: &mut [u32],
     s: usize,
-    at: usize,
+    from: usize,
 ) -> usize
-    requires { ⌜ LevelAsks m n s at (now w) (now start) (now stop) (now mark) ⌝ }
-    ensures { λ r. ⌜ LevelGives m n s at r (now (w .entry)) (now (w .exit)) (now (start .entry)) (now (stop .entry)) (now (stop .exit)) (now (mark .entry)) (now (mark .exit)) ⌝ }
+    requires { ⌜ LevelAsks m n s from (now w) (now start) (now stop) (now mark) ⌝ }
+    ensures { λ r. ⌜ LevelGives m n s from r (now (w .entry)) (now (w .exit)) (now (start .entry)) (now (stop .entry)) (now (stop .exit)) (now (mark .entry)) (now (mark .exit)) ⌝ }
 {
-    let tail = seed(w, m, n, start, stop, s);
-    settle(w, m, n, start, stop, mark, s, at, tail)
+    let tail = seed(w, m, n, start, stop, s, from);
+    drain(w, m, n, start, stop, mark, s, from, tail)
 }
 
-// Link e has strength 2 if it is in no triangle; else its strength is not known yet.
-fn bare_one(w: &mut [u32], m: usize, e: usize)
+// Link e goes into the queue at strength 2 if it is in no triangle; else its strength is not known yet.
+fn bare_one(w: &mut [u32], m: usize, e: usize, tail: usize) -> usize
     requires { ⌜ length (now w) ≡ COLUMNS * m ⌝ }
     requires { ⌜ e < m ⌝ }
-    ensures { λ _. ⌜ Bared m e (now (w .entry)) (now (w .exit)) ⌝ }
+    requires { ⌜ tail < m ⌝ }
+    requires { ⌜ m ≤ mostLinks ⌝ }
+    ensures { λ r. ⌜ Bared m e tail r (now (w .entry)) (now (w .exit)) ⌝ }
 {
     if get(w, m, SUPPORT, e) == 0 {
-        put(w, m, STRENGTH, e, 2);
-        return;
+        return push(w, m, e, 0, tail);
     }
     put(w, m, STRENGTH, e, 0);
+    tail
 }
 
-// The strength of the links in no triangle; there is no level for them.
-fn bare(w: &mut [u32], m: usize)
+// The strength of the links in no triangle; there is no level for them. Gives how many there are.
+fn bare(w: &mut [u32], m: usize) -> usize
     requires { ⌜ length (now w) ≡ COLUMNS * m ⌝ }
     requires { ⌜ m ≤ mostLinks ⌝ }
-    ensures { λ _. ⌜ Bare m m (now (w .entry)) (now (w .exit)) ⌝ }
+    ensures { λ r. ⌜ Bare m m r (now (w .entry)) (now (w .exit)) ⌝ }
 {
+    let mut tail: usize = 0;
     let mut e: usize = 0;
     while e < m {
-        bare_one(w, m, e);
+        tail = bare_one(w, m, e, tail);
         e += 1;
     }
+    tail
 }
 
-// All levels, from the least support up.
-fn peel_levels(w: &mut [u32], m: usize, n: usize, start: &[u32], stop: &mut [u32], mark: &mut [u32])
-    requires { ⌜ LevelsAsk m n (now w) (now start) (now stop) (now mark) ⌝ }
-    ensures { λ _. ⌜ LevelsGive m n (now (w .entry)) (now (w .exit)) (now (start .entry)) (now (stop .entry)) (now (mark .entry)) ⌝ }
+// All levels, from the least support up. The first `from` links are in the queue already.
+fn peel_levels(
+    w: &mut [u32],
+    m: usize,
+    n: usize,
+    start: &[u32],
+    stop: &mut [u32],
+    mark: &mut [u32],
+    from: usize,
+)
+    requires { ⌜ LevelsAsk m n from (now w) (now start) (now stop) (now mark) ⌝ }
+    ensures { λ _. ⌜ LevelsGive m n from (now (w .entry)) (now (w .exit)) (now (start .entry)) (now (stop .entry)) (now (mark .entry)) ⌝ }
 {
-    let mut at = n;
+    let mut tail = from;
     let mut s = least(w, m);
     while s < NO_SUPPORT {
-        at = level(w, m, n, start, stop, mark, s, at);
+        tail = level(w, m, n, start, stop, mark, s, tail);
         s = least(w, m);
     }
 }
@@ -175,8 +190,8 @@ fn peel_in(w: &mut [u32], m: usize, n: usize, start: &[u32], stop: &mut [u32], m
     ensures { λ _. ⌜ PeelGives m n (now (w .entry)) (now (w .exit)) (now (start .entry)) (now (mark .entry)) (now (mark .exit)) ⌝ }
 {
     ends(start, stop, n);
-    bare(w, m);
-    peel_levels(w, m, n, start, stop, mark);
+    let tail = bare(w, m);
+    peel_levels(w, m, n, start, stop, mark, tail);
     wipe(w, m, QUEUE);
     zero(mark, n);
 }

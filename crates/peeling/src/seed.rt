@@ -1,5 +1,5 @@
 // The start of a level: the links of its support go into the queue, each at its centre, so that the marks move seldom.
-ghost use Prim.Native.Nat.{_+_, _<_, _≤_};
+ghost use Prim.Native.Nat.{_+_, _<_};
 ghost use Rattle.peeling.specs.Seed.{EntryAsks, Seeded, AccountAsks, AccountGives, SeedAsks, SeedGives};
 use adjacency::ranks::rank_of;
 use columns::HALF;
@@ -60,12 +60,20 @@ fn seed_account(
     tail
 }
 
-// All links of support s or less that are in no queue. Gives how many.
-pub fn seed(w: &mut [u32], m: usize, n: usize, start: &[u32], stop: &[u32], s: usize) -> usize
-    requires { ⌜ SeedAsks m n s (now w) (now start) (now stop) ⌝ }
-    ensures { λ r. ⌜ SeedGives m n s r (now (w .entry)) (now (w .exit)) (now (start .entry)) (now (stop .entry)) ⌝ }
+// All links of support s or less that are in no queue, after the first `from` in it. Gives how many are in it then.
+pub fn seed(
+    w: &mut [u32],
+    m: usize,
+    n: usize,
+    start: &[u32],
+    stop: &[u32],
+    s: usize,
+    from: usize,
+) -> usize
+    requires { ⌜ SeedAsks m n s from (now w) (now start) (now stop) ⌝ }
+    ensures { λ r. ⌜ SeedGives m n s from r (now (w .entry)) (now (w .exit)) (now (start .entry)) (now (stop .entry)) ⌝ }
 {
-    let mut tail: usize = 0;
+    let mut tail = from;
     let mut a: usize = 0;
     while a < n {
         tail = seed_account(w, m, n, start, stop, a, s, tail);

@@ -4,7 +4,6 @@ use mathlib.Core.Logic.{_⊎_, inl, inr, _≢_}
 use mathlib.Core.Bool.{Bool, true, false}
 use mathlib.Core.List.{List}
 use Prim.Native.Nat.{ℕ, suc, _+_, _≤_, _<_}
-use native.Mathlib.Nat.{not-suc-le-zero}
 use native.Mathlib.Omega.{arith}
 use lib.ListN.{length}
 use Rattle.truss.specs.Graph.{Link, Graph, member, support, linkNumber, linkAt}
@@ -17,7 +16,7 @@ use Rattle.laws.proofs.Numbers.{same-or-not}
 use Rattle.columns.specs.Laws.{Upd, Same}
 use Rattle.columns.specs.Wiping.{Wiping}
 use Rattle.laws.proofs.ProperLinks.{live, live-member, live-flag, live-at, dead-at}
-use Rattle.removal.specs.Queue.{Fate, stays, goes, went, put, upd-put, queue-done}
+use Rattle.removal.specs.Queue.{Fate, stays, goes, went, put, upd-put, queue-line, queue-done}
 use Rattle.adjacency.specs.State.{Named}
 use Rattle.removal.specs.State.{Level, Ready, All, None, Waiting, Supports}
 
@@ -48,7 +47,7 @@ module _ {G : Graph} {m n : ℕ} {w : List ℕ} (N : Named G m n w) (d : ℕ →
 
   -- ---- the start
 
-  module _ {k : ℕ} (R : Ready G m k d w) (s : ℕ) (up : k ≤ s + 2) (least : (y : ℕ) → y < m → cell w m STRENGTH y ≡ 0 → s ≤ cell w m SUPPORT y) where
+  module _ {k tail : ℕ} (R : Ready G m k tail d w) (s : ℕ) (up : k ≤ s + 2) (least : (y : ℕ) → y < m → cell w m STRENGTH y ≡ 0 → s ≤ cell w m SUPPORT y) where
     unqueued : (y : ℕ) → y < m → d y ≡ 0 → cell w m STRENGTH y ≡ 0
     unqueued y l z = go (same-or-not (cell w m STRENGTH y) 0)
       where
@@ -60,14 +59,14 @@ module _ {G : Graph} {m n : ℕ} {w : List ℕ} (N : Named G m n w) (d : ℕ →
     start-exact =
         exact (s + 2) (λ e h. R .covers e (truss-nested G k (s + 2) up e h)) (R .supports) (λ y l z. omega (arith, least y l (unqueued y l z)))
 
-    pub level-start : Level G m s None 0 0 d w
+    pub level-start : Level G m s None tail tail d w
     level-start = record {
       queue = record {
         order = omega arith;
-        within = λ i l. absurd (not-suc-le-zero l);
-        named = λ i l. absurd (not-suc-le-zero l);
-        once = λ i j l k e. absurd (not-suc-le-zero l);
-        fresh = λ i g l. absurd (not-suc-le-zero l);
+        within = R .line .within;
+        named = R .line .named;
+        once = R .line .once;
+        fresh = λ i g l. absurd (omega arith);
         waits = λ y l t. inl (R .finished y l t);
         above = λ y l t z. absurd t;
         low = λ y l t z. absurd (R .finished y l t z);
@@ -103,8 +102,9 @@ module _ {G : Graph} {m n : ℕ} {w : List ℕ} (N : Named G m n w) (d : ℕ →
         enough y l z (inl t) = omega (arith, end-above y l t)
         enough y l z (inr t) = absurd (out y l t z)
 
-    pub level-end : Ready G m (suc (s + 2)) d w
+    pub level-end : Ready G m (suc (s + 2)) tail d w
     level-end = record {
+      line = queue-line (L .queue) (λ y l. refl) (λ y l. refl);
       ended = L .queue .ended;
       finished = out;
       gone = L .queue .gone;
@@ -133,8 +133,9 @@ module _ {G : Graph} {m n : ℕ} {w : List ℕ} (N : Named G m n w) (d : ℕ →
             let x : cell w m SUPPORT y ≡ support (G .n) (live G d) e = L .supports y (r .0) (r .1) ∙ ap (support (G .n) (live G d)) (r .2) in
             outside G (suc (s + 2)) (live G d) (L .covers) e (omega (arith, x, L .queue .low y (r .0) (all y (r .0)) (r .1)))
 
-    pub level-last : {w′ : List ℕ} → Wiping m SUPPORT m w w′ → Ready G m (suc (s + 2)) everyone w′
+    pub level-last : {w′ : List ℕ} → Wiping m SUPPORT m w w′ → Ready G m (suc (s + 2)) tail everyone w′
     level-last {w′} W = record {
+      line = queue-line (L .queue) same (λ y l. W .others QUEUE y (omega arith) l);
       ended = λ y l z. absurd (all y l (sym (same y l) ∙ z));
       finished = λ y l t z. absurd (omega arith);
       gone = λ y l t. W .zero y l;

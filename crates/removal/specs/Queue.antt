@@ -1,4 +1,4 @@
--- The queue of one level of the peeling: the links that wait, and what is known of all others. Columns as functions of the link number:
+-- The queue of the peeling while one level runs: the links that went, those that wait, and what is known of all others. Columns as functions of the link number:
 -- σ supports, τ strengths (0: not in a queue yet), q the queue; and d, which no column holds: not 0 for the links that are removed.
 -- In order: the invariant; its size; a support falls; a link joins; the first is removed; one more link is looked at. Assumes nothing.
 use mathlib.Core.Path.{_≡_, refl, sym, ap, _∙_}
@@ -34,6 +34,12 @@ pub record Queue (G : Graph) (m s : ℕ) (Met : ℕ → Type 0) (head tail : ℕ
   pub gone : (y : ℕ) → y < m → d y ≢ 0 → σ y ≡ 0
   pub fate : (y : ℕ) → y < m → Fate G s (linkAt G y) (τ y)
 
+-- the links queued so far, each once
+pub record Line (m tail : ℕ) (τ q : ℕ → ℕ) : Type 0 where
+  pub within : (i : ℕ) → i < tail → q i < m
+  pub named : (i : ℕ) → i < tail → τ (q i) ≢ 0
+  pub once : (i j : ℕ) → i < tail → j < tail → q i ≡ q j → i ≡ j
+
 -- f with the value v at x
 unfoldable pub put : (ℕ → ℕ) → ℕ → ℕ → ℕ → ℕ
 put f x v y = cond (eqb y x) v (f y)
@@ -52,6 +58,13 @@ module _ {G : Graph} {m s : ℕ} {Met : ℕ → Type 0} {head tail : ℕ} {σ τ
 
   few : (i : ℕ) → i < tail → i < m
   few i l = omega (arith, queue-few)
+
+  pub queue-line : {τ′ q′ : ℕ → ℕ} → Same m τ τ′ → Same m q q′ → Line m tail τ′ q′
+  queue-line sτ sq = record {
+    within = λ i l. rw (sq i (few i l)) (Q .within i l);
+    named = λ i l. rw (sq i (few i l), sτ (q i) (Q .within i l)) (Q .named i l);
+    once = λ i j l k e. Q .once i j l k (sym (sq i (few i l)) ∙ e ∙ sq j (few j k));
+  }
 
   -- a support changes
   pub queue-lower : (x v : ℕ) {σ′ τ′ q′ d′ : ℕ → ℕ} → x < m → v ≤ σ x → (τ x ≡ 0 → s < v) → Upd m σ σ′ x v → Same m τ τ′ → Same m q q′ → Same m d d′
@@ -188,6 +201,10 @@ module _ {G : Graph} {m s : ℕ} {Met : ℕ → Type 0} {head tail : ℕ} {σ τ
     where
       go : Queue G m s Met head (tail + 1) (put σ x 0) (put τ x (s + 2)) (put q tail x) d → tail + 1 ≤ m
       go P = pigeonhole m (tail + 1) (put q tail x) (P .within) (λ i j a b e. P .once i j a b e)
+
+  -- and where there is none, all links are in it
+  pub queue-full : m ≤ tail → (x : ℕ) → x < m → τ x ≢ 0
+  queue-full l x k z = omega (arith, queue-room x k z)
 
   -- the first is removed
   pub queue-done : {σ′ τ′ q′ d′ : ℕ → ℕ} → head < tail → Upd m σ σ′ (q head) 0 → Same m τ τ′ → Same m q q′ → Upd m d d′ (q head) 1

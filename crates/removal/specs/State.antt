@@ -9,7 +9,7 @@ use Rattle.truss.specs.Strength.{strength}
 use Rattle.laws.proofs.ProperLinks.{live}
 use Rattle.laws.proofs.Rounds.{Covers}
 use Rattle.columns.specs.Columns.{cell, SUPPORT, STRENGTH, QUEUE}
-use Rattle.removal.specs.Queue.{Queue}
+use Rattle.removal.specs.Queue.{Queue, Line}
 
 -- all links were looked at; none was
 abbrev pub All : ℕ → Type 0
@@ -31,8 +31,9 @@ pub record Level (G : Graph) (m s : ℕ) (Met : ℕ → Type 0) (head tail : ℕ
   pub supports : Supports G m d w
   pub covers : Covers G (suc (s + 2)) (live G d)
 
--- between two levels: nothing waits, and the links that are left hold the k-truss
-pub record Ready (G : Graph) (m k : ℕ) (d : ℕ → ℕ) (w : List ℕ) : Type 0 where
+-- between two levels: nothing waits of the first `tail` in the queue, and the links that are left hold the k-truss
+pub record Ready (G : Graph) (m k tail : ℕ) (d : ℕ → ℕ) (w : List ℕ) : Type 0 where
+  pub line : Line m tail (cell w m STRENGTH) (cell w m QUEUE)
   pub ended : (y : ℕ) → y < m → cell w m STRENGTH y ≡ 0 → d y ≡ 0
   pub finished : (y : ℕ) → y < m → cell w m STRENGTH y ≢ 0 → d y ≢ 0
   pub gone : (y : ℕ) → y < m → d y ≢ 0 → cell w m SUPPORT y ≡ 0

@@ -1,22 +1,23 @@
 -- `peeling::peel::bare` meets its contract. Assumes nothing.
-use Rattle.peeling.specs.Bare.{Bare, bare-none, bare-next, bare-all}
+use Rattle.peeling.specs.Bare.{Bare, bare-none, bare-room, bare-size, bare-next, bare-all}
 use Prim.Native.Nat.{_-_, _≤_}
 use native.Mathlib.Omega.{arith}
-use mathlib.Core.Path.{_∙_}
 use Rattle.peeling.proofs.peel.bare.Statement.{statement}
 use Rattle.peeling.proofs.peel.bare.Tie as tie
 
 abbrev Inv-loop : tie.InvT-loop
-Inv-loop w₀ m e₀ w e = (e ≤ m) × Bare m e w₀ w
+Inv-loop w₀ m tail₀ e₀ w tail e = (e ≤ m) × Bare m e tail w₀ w
 
 abbrev μ-loop : tie.MeasureT-loop
-μ-loop w₀ m e₀ w e = m - e
+μ-loop w₀ m tail₀ e₀ w tail e = m - e
 
 loop-holds : tie.Need-loop-holds Inv-loop μ-loop
 loop-holds c = (omega arith, bare-none _ _)
 
 bare-one-requires : tie.Need-bare-one-requires Inv-loop μ-loop
-bare-one-requires c κs = (c .before .before .loop .inv .1 .kept .length-is ∙ c .before .before .before .before .pre .0, c .before .loop-test .taken)
+bare-one-requires c κs =
+    let B = c .before .before .loop .inv .1 in
+    (bare-size B (c .before .before .before .before .pre .0) (c .before .loop-test .taken), (c .before .loop-test .taken, (bare-room B (c .before .before .before .before .pre .0) (c .before .loop-test .taken), c .before .before .before .before .pre .1)))
 
 add-e : tie.Need-add-e Inv-loop μ-loop
 add-e c = omega (arith, c .before .before .before .before .loop-test .taken, c .before .before .before .before .before .before .before .pre .1)

@@ -10,11 +10,11 @@ use Rattle.peeling.proofs.peel.peel_levels.Tie as tie
 use Rattle.columns.specs.Columns.{noSupport}
 
 abbrev Inv-loop : tie.InvT-loop
-Inv-loop w₀ m n start stop₀ mark₀ at₀ s₀ w stop mark at s =
-    (length w ≡ length w₀) × (length stop ≡ length stop₀) × (length mark ≡ length mark₀) × LevelsTurn m n s at w₀ w start stop₀ stop mark₀ mark
+Inv-loop w₀ m n start stop₀ mark₀ from tail₀ s₀ w stop mark tail s =
+    (length w ≡ length w₀) × (length stop ≡ length stop₀) × (length mark ≡ length mark₀) × LevelsTurn m n s from tail w₀ w start stop₀ stop mark₀ mark
 
 abbrev μ-loop : tie.MeasureT-loop
-μ-loop w₀ m n start stop₀ mark₀ at₀ s₀ w stop mark at s = noSupport - s
+μ-loop w₀ m n start stop₀ mark₀ from tail₀ s₀ w stop mark tail s = noSupport - s
 
 least-requires : tie.Need-least-requires Inv-loop μ-loop
 least-requires c κs = search needs

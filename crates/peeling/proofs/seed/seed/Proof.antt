@@ -9,10 +9,10 @@ use Rattle.peeling.proofs.seed.seed.Statement.{statement}
 use Rattle.peeling.proofs.seed.seed.Tie as tie
 
 abbrev Inv-loop : tie.InvT-loop
-Inv-loop w₀ m n start stop s tail₀ a₀ w tail a = (a ≤ n) × (length w ≡ length w₀) × SeedTurns m n a s tail w₀ w start stop
+Inv-loop w₀ m n start stop s from tail₀ a₀ w tail a = (a ≤ n) × (length w ≡ length w₀) × SeedTurns m n a s from tail w₀ w start stop
 
 abbrev μ-loop : tie.MeasureT-loop
-μ-loop w₀ m n start stop s tail₀ a₀ w tail a = n - a
+μ-loop w₀ m n start stop s from tail₀ a₀ w tail a = n - a
 
 loop-holds : tie.Need-loop-holds Inv-loop μ-loop
 loop-holds c = (omega arith, refl, λ G d P. seed-start P)
@@ -20,7 +20,7 @@ loop-holds c = (omega arith, refl, λ G d P. seed-start P)
 seed-account-requires : tie.Need-seed-account-requires Inv-loop μ-loop
 seed-account-requires c κs =
     let P = c .before .before .before .before .before .before .pre .2 in
-    (c .before .before .before .before .before .before .pre .0, c .before .before .before .before .before .before .pre .1, seed-account P (c .before .before .loop .inv .2 _ _ P) (c .before .loop-test .taken))
+    (c .before .before .before .before .before .before .pre .0, c .before .before .before .before .before .before .args .from, c .before .before .before .before .before .before .pre .1, seed-account P (c .before .before .loop .inv .2 _ _ P) (c .before .loop-test .taken))
 
 add-a : tie.Need-add-a Inv-loop μ-loop
 add-a c = omega (arith, c .before .before .before .before .loop-test .taken, c .before .before .before .before .before .before .before .before .before .pre .2 .named .small)
@@ -34,7 +34,7 @@ loop-again c = (
   search needs,
   λ G d P.
       let S = c .before .before .before .before .before .loop .inv .2 G d P in
-      seed-next P S (c .before .before .seed-account .ensures G d (seed-account P S (c .before .before .before .before .loop-test .taken))),
+      seed-next P S (c .before .before .seed-account .ensures G _ d (seed-account P S (c .before .before .before .before .loop-test .taken))),
 )
 
 same-length : tie.Need-same-length Inv-loop μ-loop

@@ -16,40 +16,40 @@ abbrev μ-loop : tie.MeasureT-loop
 μ-loop w₀ m n start stop a s from tail₀ i₀ end w tail i = end - i
 
 mul-i : tie.Need-mul-i Inv-loop μ-loop
-mul-i c = omega (arith, c .before .before .before .pre .2 .left .rows .long, c .before .before .before .pre .2 .here, c .before .before .before .pre .2 .named .small, c .before .before .before .pre .2 .named .accounts)
+mul-i c = omega (arith, c .before .before .before .pre .3 .left .rows .long, c .before .before .before .pre .3 .here, c .before .before .before .pre .3 .named .small, c .before .before .before .pre .3 .named .accounts)
 
 shared-slice-read-i : tie.Need-shared-slice-read-i Inv-loop μ-loop
-shared-slice-read-i c = omega (arith, c .before .before .before .before .pre .2 .left .rows .long, c .before .before .before .before .pre .2 .here)
+shared-slice-read-i c = omega (arith, c .before .before .before .before .pre .3 .left .rows .long, c .before .before .before .before .pre .3 .here)
 
 cast-i : tie.Need-cast-i Inv-loop μ-loop
 cast-i c = omega (arith, c .shared-slice-known3 .given (c .before .before .before .before .args .a))
 
 mul-end : tie.Need-mul-end Inv-loop μ-loop
-mul-end c = omega (arith, c .before .before .before .before .pre .2 .here, c .before .before .before .before .pre .2 .named .small, c .before .before .before .before .pre .2 .named .accounts)
+mul-end c = omega (arith, c .before .before .before .before .pre .3 .here, c .before .before .before .before .pre .3 .named .small, c .before .before .before .before .pre .3 .named .accounts)
 
 shared-slice-read-end : tie.Need-shared-slice-read-end Inv-loop μ-loop
-shared-slice-read-end c = omega (arith, c .before .before .before .before .before .pre .2 .left .wide, c .before .before .before .before .before .pre .2 .here)
+shared-slice-read-end c = omega (arith, c .before .before .before .before .before .pre .3 .left .wide, c .before .before .before .before .before .pre .3 .here)
 
 cast-end : tie.Need-cast-end Inv-loop μ-loop
 cast-end c = omega (arith, c .shared-slice-known4 .given (c .before .before .before .before .before .args .a))
 
 loop-holds : tie.Need-loop-holds Inv-loop μ-loop
-loop-holds c = (omega arith, omega (arith, c .before .before .before .before .before .pre .2 .left .opens (c .before .before .before .before .before .args .a) (c .before .before .before .before .before .pre .2 .here)), refl, λ G d P. account-start P)
+loop-holds c = (omega arith, omega (arith, c .before .before .before .before .before .pre .3 .left .opens (c .before .before .before .before .before .args .a) (c .before .before .before .before .before .pre .3 .here)), refl, λ G head d P. account-start P)
 
 near-requires : tie.Need-near-requires Inv-loop μ-loop
 near-requires c κs =
-    let P = c .before .before .before .before .before .before .before .before .pre .2 in
-    let S = c .before .before .loop .inv .3 _ _ P in
+    let P = c .before .before .before .before .before .before .before .before .pre .3 in
+    let S = c .before .before .loop .inv .3 _ _ _ P in
     (account-fits P S (c .before .before .loop .inv .0) (c .before .loop-test .taken), account-size P S (c .before .before .loop .inv .0) (c .before .loop-test .taken))
 
 seed-entry-requires : tie.Need-seed-entry-requires Inv-loop μ-loop
 seed-entry-requires c κs =
-    let P = c .before .before .before .before .before .before .before .before .before .before .pre .2 in
-    let S = c .before .before .before .before .loop .inv .3 _ _ P in
-    (c .before .before .before .before .before .before .before .before .before .before .pre .0, c .before .before .before .before .before .before .before .before .before .before .args .n, c .before .before .before .before .loop .i, c .before .before .before .before .before .before .before .before .before .before .pre .1, c .before .before .before .before .before .before .before .before .before .before .args .stop .now, account-entry P S (c .before .before .before .before .loop .inv .0) (c .before .before .before .loop-test .taken) (c .before .near .ensures .0))
+    let P = c .before .before .before .before .before .before .before .before .before .before .pre .3 in
+    let S = c .before .before .before .before .loop .inv .3 _ _ _ P in
+    (c .before .before .before .before .before .before .before .before .before .before .pre .0, c .before .before .before .before .before .before .before .before .before .before .args .n, c .before .before .before .before .loop .i, c .before .before .before .before .before .before .before .before .before .before .pre .1, c .before .before .before .before .before .before .before .before .before .before .pre .2, c .before .before .before .before .before .before .before .before .before .before .args .stop .now, account-entry P S (c .before .before .before .before .loop .inv .0) (c .before .before .before .loop-test .taken) (c .before .near .ensures .0))
 
 add-i : tie.Need-add-i Inv-loop μ-loop
-add-i c = omega (arith, c .before .before .before .before .before .before .loop-test .taken, c .before .before .before .before .before .before .before .before .before .before .before .before .before .pre .2 .left .closes (c .before .before .before .before .before .before .before .before .before .before .before .before .before .args .a) (c .before .before .before .before .before .before .before .before .before .before .before .before .before .pre .2 .here), c .before .before .before .before .before .before .before .before .before .before .before .before .before .pre .2 .left .rows .fits (c .before .before .before .before .before .before .before .before .before .before .before .before .before .args .a) (c .before .before .before .before .before .before .before .before .before .before .before .before .before .pre .2 .here), c .before .before .before .before .before .before .before .before .before .before .before .before .before .pre .2 .named .few)
+add-i c = omega (arith, c .before .before .before .before .before .before .loop-test .taken, c .before .before .before .before .before .before .before .before .before .before .before .before .before .pre .3 .left .closes (c .before .before .before .before .before .before .before .before .before .before .before .before .before .args .a) (c .before .before .before .before .before .before .before .before .before .before .before .before .before .pre .3 .here), c .before .before .before .before .before .before .before .before .before .before .before .before .before .pre .3 .left .rows .fits (c .before .before .before .before .before .before .before .before .before .before .before .before .before .args .a) (c .before .before .before .before .before .before .before .before .before .before .before .before .before .pre .3 .here), c .before .before .before .before .before .before .before .before .before .before .before .before .before .pre .3 .named .few)
 
 loop-less : tie.Need-loop-less Inv-loop μ-loop
 loop-less c = omega (arith, c .before .before .before .before .before .before .loop-test .taken)
@@ -59,7 +59,7 @@ loop-again c = (
   omega (arith, c .before .before .before .before .before .before .before .loop .inv .0),
   omega (arith, c .before .before .before .before .before .before .loop-test .taken),
   search needs,
-  λ G d P. account-next P (c .before .before .before .before .before .before .before .loop .inv .3 G d P) (c .before .before .before .before .before .before .before .loop .inv .0) (c .before .before .before .before .before .before .loop-test .taken) (c .before .before .before .before .near .ensures .0) (c .before .before .seed-entry .ensures),
+  λ G head d P. account-next P (c .before .before .before .before .before .before .before .loop .inv .3 G head d P) (c .before .before .before .before .before .before .before .loop .inv .0) (c .before .before .before .before .before .before .loop-test .taken) (c .before .before .before .before .near .ensures .0) (c .before .before .seed-entry .ensures),
 )
 
 same-length : tie.Need-same-length Inv-loop μ-loop
@@ -68,7 +68,7 @@ same-length c = c .before .loop .inv .2
 returns : tie.Need-returns Inv-loop μ-loop
 returns c =
     let e : c .before .loop .i ≡ startAt (c .before .before .before .before .before .before .before .args .stop .now) (c .before .before .before .before .before .before .before .args .a) = omega (arith, c .loop-test .left, c .before .loop .inv .1) in
-    λ G d P. account-end P e (c .before .loop .inv .3 G d P)
+    λ G head d P. account-end P e (c .before .loop .inv .3 G head d P)
 
 pub seed-account-spec : {M : Type 1} → statement M
 seed-account-spec =
