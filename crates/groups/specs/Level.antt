@@ -1,25 +1,24 @@
 -- The groups of one level put together: `group`. Assumes nothing.
-use mathlib.Core.Path.{_≡_, refl, sym, ap, _∙_, subst}
+use mathlib.Core.Path.{_≡_, refl, sym, _∙_, subst}
 use mathlib.Core.Logic.{_⊎_, inl, inr, _≢_}
-use mathlib.Core.Bool.{Bool, true, false, _||_}
+use mathlib.Core.Bool.{false, _||_}
 use mathlib.Core.List.{List}
-use Prim.Native.Nat.{ℕ, suc, _+_, _*_, _≤_, _<_}
+use Prim.Native.Nat.{ℕ, suc, _≤_, _<_}
 use native.Mathlib.Nat.{le-refl}
 use native.Mathlib.Omega.{arith}
 use lib.Dec.{eqb}
-use lib.ListN.{length}
 use Rattle.truss.specs.Limits.{noGroup}
 use Rattle.truss.specs.Graph.{Graph}
-use Rattle.truss.specs.Group.{Group, leastLink}
+use Rattle.truss.specs.Group.{leastLink}
 use Rattle.laws.proofs.Lists.{or-left-false, or-right-false}
 use Rattle.laws.proofs.Groups.{size, strengthAt}
 use Rattle.laws.proofs.Stored.{groupCount, stored, few-groups}
 use Rattle.laws.proofs.Sides.{InOrder}
-use Rattle.laws.proofs.GroupPlaces.{IsGroup, Counted, Above, Beneath, stronger-than, lower-than, weaker-than, not-lower, counted-all, ParentSo, parent-weaker, ownOf}
+use Rattle.laws.proofs.GroupPlaces.{Counted, Above, Beneath, stronger-than, lower-than, weaker-than, not-lower, counted-all, ParentSo, parent-weaker, ownOf}
 use Rattle.columns.specs.Columns.{cell}
 use Rattle.laws.proofs.Numbers.{same-or-not, less-or-not}
-use Rattle.unions.specs.Space.{Columns, Frame, frame-trans, frame-wide, grouping, Steady, steady-trans, steady-wide, steady-frame}
-use Rattle.groups.specs.Marking.{AtLevel, at-steady, MarkedTo, marked-frame, marking, naming, adopting, MarksPre, MarksGives}
+use Rattle.unions.specs.Space.{Columns, Frame, grouping, Steady, steady-trans, steady-wide, steady-frame}
+use Rattle.groups.specs.Marking.{AtLevel, at-steady, marked-frame, marking, naming, adopting, MarksPre, MarksGives}
 use Rattle.groups.specs.Numbering.{numbering, Numbered, NumbersPre, NumbersGives, numbers-at}
 use Rattle.groups.specs.Naming.{Ready, ready-steady, Owned, NamesPre, NamesGives, Adopted, AdoptsPre, AdoptsGives}
 

@@ -1,16 +1,16 @@
 -- The roots of the links of strength k, marked in column 15. `mark_one`, `mark_roots`. Assumes nothing.
 use mathlib.Core.Path.{_≡_, refl, sym, ap, _∙_, subst}
 use mathlib.Core.Logic.{_⊎_, inl, inr, _≢_}
-use mathlib.Core.Bool.{Bool, true, false, _||_}
+use mathlib.Core.Bool.{false, _||_}
 use mathlib.Core.List.{List}
 use Prim.Native.Nat.{ℕ, suc, _+_, _*_, _≤_, _<_}
 use native.Mathlib.Omega.{arith}
 use lib.Dec.{eqb}
-use lib.ListN.{length, getD}
-use Rattle.truss.specs.Graph.{Graph, linkAt}
+use lib.ListN.{length}
+use Rattle.truss.specs.Graph.{Graph}
 use Rattle.truss.specs.Group.{labelsAt}
-use Rattle.laws.proofs.UnionFind.{Down, rootOf}
-use Rattle.laws.proofs.Lists.{or-left-false, or-right-false}
+use Rattle.laws.proofs.UnionFind.{Down}
+use Rattle.laws.proofs.Lists.{or-left-false}
 use Rattle.laws.proofs.Components.{label}
 use Rattle.laws.proofs.Unions.{Keeps}
 use Rattle.laws.proofs.Groups.{size, strengthAt}
@@ -18,7 +18,7 @@ use Rattle.laws.proofs.GroupPlaces.{root-in}
 use Rattle.columns.specs.Columns.{cell, store}
 use Rattle.laws.proofs.Numbers.{same-or-not}
 use Rattle.columns.specs.Laws.{stored, kept-entry}
-use Rattle.unions.specs.Space.{Columns, Frame, frame-none, frame-trans, frame-wide, parents, root, roots, Steady, steady-none, steady-trans, steady-wide, steady-store}
+use Rattle.unions.specs.Space.{Columns, Frame, parents, roots, Steady, steady-none, steady-trans, steady-wide, steady-store}
 use Rattle.unions.specs.Find.{FindPre, Found}
 use Rattle.unions.specs.State.{Given, given-frame}
 

@@ -2,27 +2,26 @@
 -- `name_one`, `name_groups`, `adopt_one`, `adopt`. Assumes nothing.
 use mathlib.Core.Path.{_≡_, refl, sym, ap, _∙_, subst}
 use mathlib.Core.Logic.{_⊎_, inl, inr, _≢_}
-use mathlib.Core.Bool.{Bool, true, false, _||_}
+use mathlib.Core.Bool.{false}
 use mathlib.Core.List.{List}
 use mathlib.Core.List.{List·Memᴰ as In}
 use Prim.Native.Nat.{ℕ, suc, _+_, _*_, _≤_, _<_}
 use native.Mathlib.Nat.{le-refl}
 use native.Mathlib.Omega.{arith}
-use lib.Dec.{eqb}
-use lib.ListN.{length, getD}
+use lib.ListN.{length}
 use Rattle.truss.specs.Limits.{noGroup}
-use Rattle.truss.specs.Graph.{Graph, linkAt}
-use Rattle.truss.specs.Group.{Group, leastLink, groups}
+use Rattle.truss.specs.Graph.{Graph}
+use Rattle.truss.specs.Group.{leastLink}
 use Rattle.laws.proofs.Groups.{size, strengthAt}
 use Rattle.laws.proofs.Stored.{groupCount, stored, stored-in}
 use Rattle.laws.proofs.Sides.{InOrder}
-use Rattle.laws.proofs.GroupPlaces.{Marked, IsGroup, ParentSo, open-yet, known, ownOf, own-group, group-once, group-holds, group-room, held-marked, least-in, parent-found, parent-passed, parent-weaker, root-in}
+use Rattle.laws.proofs.GroupPlaces.{IsGroup, ParentSo, open-yet, known, ownOf, own-group, group-once, group-holds, held-marked, least-in, parent-found, parent-passed}
 use Rattle.columns.specs.Columns.{cell, store}
-use Rattle.laws.proofs.Numbers.{same-or-not, less-or-not}
-use Rattle.columns.specs.Laws.{stored as stored-cell, kept-entry, kept-column, length-store}
-use Rattle.unions.specs.Space.{Columns, Frame, frame-none, frame-trans, frame-store, Steady, steady-none, steady-trans, steady-wide, steady-store}
-use Rattle.unions.specs.Find.{FindPre, Found}
-use Rattle.groups.specs.Marking.{AtLevel, MarkedTo, rootIs, marked-frame, at-steady, at-find, at-found, root-below, naming, adopting, roots-naming, roots-adopting}
+use Rattle.laws.proofs.Numbers.{same-or-not}
+use Rattle.columns.specs.Laws.{stored as stored-cell, kept-entry}
+use Rattle.unions.specs.Space.{Columns, Steady, steady-none, steady-trans, steady-wide, steady-store}
+use Rattle.unions.specs.Find.{Found}
+use Rattle.groups.specs.Marking.{AtLevel, MarkedTo, rootIs, marked-frame, at-steady, at-found, naming, adopting, roots-naming, roots-adopting}
 
 -- of a marked root, column 14 has its group
 abbrev pub Numbers : (G : Graph) → InOrder G → ℕ → ℕ → List ℕ → Type 0
@@ -94,9 +93,6 @@ module _ {m e k x r : ℕ} {w w₁ : List ℕ} (ex : x ≡ cell w m 4 e) (q : x 
           strength-is = S .strength-is ∙ strong;
           least-is = S .least-is ∙ ap (λ (z : ℕ). rootIs G z e) strong ∙ sym rr;
         })
-
-    pub name-fits : {g : ℕ} → g ≡ cell w₁ m 14 r → g < m
-    name-fits eg = omega (arith, group-room G o (name-group eg), P .ready .at .given .count)
 
   pub name-done : {g : ℕ} {w₂ : List ℕ} → NameAsks m e k w → g ≡ cell w₁ m 14 r → w₂ ≡ store w₁ m 8 e g → NameGives m e k w w₂
   name-done {g} {w₂} ask eg put = rw put (record {
@@ -241,9 +237,6 @@ module _ {m k g x l r : ℕ} {w w₁ : List ℕ} (ex : x ≡ cell w m 12 g) (q :
 
     adopt-group : {z h : ℕ} → z ≡ cell w₁ m 15 r → z ≡ k → h ≡ cell w₁ m 14 r → IsGroup G o k r h
     adopt-group {z} {h} ez s eh = subst (IsGroup G o k r) (sym eh) (ready-after .numbers r (F .below) (sym ez ∙ s))
-
-    pub adopt-fits : {z h : ℕ} → z ≡ cell w₁ m 15 r → z ≡ k → h ≡ cell w₁ m 14 r → h < m
-    adopt-fits ez s eh = omega (arith, group-room G o (adopt-group ez s eh), P .ready .at .given .count)
 
     parent-here : {z h : ℕ} → z ≡ cell w₁ m 15 r → z ≡ k → h ≡ cell w₁ m 14 r → ParentSo G o fits k g h
     parent-here {z} {h} ez s eh =

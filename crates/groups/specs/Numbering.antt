@@ -1,19 +1,19 @@
 -- The groups of strength k, numbered by rising root: `number_one`, `number_roots`. Assumes nothing.
 use mathlib.Core.Path.{_≡_, refl, sym, ap, _∙_, subst}
 use mathlib.Core.Logic.{_⊎_, inl, inr, _≢_}
-use mathlib.Core.Bool.{Bool, true, false, _||_}
+use mathlib.Core.Bool.{_||_}
 use mathlib.Core.List.{List}
 use Prim.Native.Nat.{ℕ, suc, _+_, _*_, _≤_, _<_}
 use native.Mathlib.Omega.{arith}
 use lib.Dec.{eqb}
-use lib.ListN.{length, getD}
+use lib.ListN.{length}
 use Rattle.truss.specs.Limits.{noGroup}
-use Rattle.truss.specs.Graph.{Graph, linkAt}
-use Rattle.truss.specs.Group.{Group, leastLink, groups}
+use Rattle.truss.specs.Graph.{Graph}
+use Rattle.truss.specs.Group.{leastLink}
 use Rattle.laws.proofs.Groups.{size, strengthAt}
-use Rattle.laws.proofs.Stored.{groupCount, stored}
+use Rattle.laws.proofs.Stored.{stored}
 use Rattle.laws.proofs.Sides.{InOrder}
-use Rattle.laws.proofs.GroupPlaces.{Marked, IsGroup, Counted, ParentSo, open-yet, known, stored-marked, marked-stored, counted-skip, counted-next, counted-group, group-room}
+use Rattle.laws.proofs.GroupPlaces.{Marked, IsGroup, Counted, ParentSo, open-yet, stored-marked, marked-stored, counted-skip, counted-next, counted-group, group-room}
 use Rattle.columns.specs.Columns.{cell, store}
 use Rattle.laws.proofs.Numbers.{same-or-not}
 use Rattle.columns.specs.Laws.{stored as stored-cell, kept-entry, kept-column, length-store}

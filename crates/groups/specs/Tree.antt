@@ -1,29 +1,25 @@
 -- Forest and groups by falling levels: `levels`, `work`. Assumes nothing.
-use mathlib.Core.Path.{_≡_, refl, sym, ap, _∙_, subst}
-use mathlib.Core.Logic.{_⊎_, inl, inr, _≢_}
+use mathlib.Core.Path.{_≡_, refl, sym, _∙_, subst}
+use mathlib.Core.Logic.{_⊎_, inl, inr}
 use mathlib.Core.List.{List}
-use Prim.Native.Nat.{ℕ, suc, _+_, _*_, _-_, _≤_, _<_}
+use Prim.Native.Nat.{ℕ, suc, _+_, _-_, _≤_, _<_}
 use native.Mathlib.Nat.{le-refl}
 use native.Mathlib.Omega.{arith}
 use lib.ListN.{length}
 use Rattle.truss.specs.Limits.{noGroup}
 use Rattle.truss.specs.Graph.{Graph, linkAt}
 use Rattle.truss.specs.Forest.{forest}
-use Rattle.truss.specs.Group.{Group, leastLink, groups}
+use Rattle.truss.specs.Group.{leastLink}
 use Rattle.laws.proofs.Peeling.{strength-at-most}
 use Rattle.laws.proofs.Groups.{size, strengthAt}
-use Rattle.laws.proofs.Stored.{groupCount, stored, few-groups}
+use Rattle.laws.proofs.Stored.{groupCount, stored}
 use Rattle.laws.proofs.Sides.{InOrder}
-use Rattle.laws.proofs.GroupPlaces.{Counted, Beneath, stored-marked, stored-most, stored-three, counted-first, counted-lower, counted-end, ParentSo, parent-weaker, parent-end, parentOf, ownOf, own-none}
+use Rattle.laws.proofs.GroupPlaces.{stored-marked, stored-most, stored-three, counted-first, counted-lower, counted-end, parent-weaker, parent-end, parentOf, ownOf, own-none}
 use Rattle.columns.specs.Columns.{cell}
-use Rattle.laws.proofs.Numbers.{same-or-not, less-or-not}
-use Rattle.unions.specs.Space.{Frame, growing, grouping, Steady}
+use Rattle.laws.proofs.Numbers.{less-or-not}
 use Rattle.unions.specs.State.{Given, taken, growth-steady}
 use Rattle.forest.specs.Rows.{Rows, RowsPre, RowsGives}
 use Rattle.forest.specs.Level.{Between, Top, LevelPre, LevelGives, Prepared, between-first, between-level, level-between, between-labels, between-strength, between-end}
-use Rattle.groups.specs.Marking.{AtLevel}
-use Rattle.groups.specs.Numbering.{Numbered}
-use Rattle.groups.specs.Naming.{Owned}
 use Rattle.groups.specs.Level.{GroupsTo, groups-frame, GroupPre, GroupGives}
 
 -- between two levels: the joins and the groups of weight and strength K and more are there; k is the next weight

@@ -1,24 +1,24 @@
 -- The whole: scratch columns and the unused ends of columns at 0, and what `tree` gives. Assumes nothing.
-use mathlib.Core.Path.{_≡_, refl, sym, ap, _∙_, subst}
+use mathlib.Core.Path.{_≡_, refl, sym, ap, _∙_}
 use mathlib.Core.Logic.{_⊎_, inl, inr, _≢_}
 use mathlib.Core.List.{List}
-use Prim.Native.Nat.{ℕ, suc, _+_, _*_, _≤_, _<_, _/_, _%_}
+use Prim.Native.Nat.{ℕ, _+_, _*_, _≤_, _<_}
 use native.Mathlib.Omega.{arith}
 use lib.ListN.{length, getD}
 use Rattle.truss.specs.Limits.{noGroup}
-use Rattle.truss.specs.Graph.{Graph, linkAt}
+use Rattle.truss.specs.Graph.{Graph}
 use Rattle.truss.specs.Strength.{strength}
 use Rattle.truss.specs.Forest.{Join, join, forest}
-use Rattle.truss.specs.Group.{Group, leastLink, groups}
+use Rattle.truss.specs.Group.{groups}
 use Rattle.truss.specs.Index.{GroupRow, index, groupRow}
 use Rattle.truss.specs.Stored.{rowAt, groupRowAt}
 use Rattle.laws.proofs.Groups.{size}
-use Rattle.laws.proofs.Stored.{groupCount, stored, few-groups}
+use Rattle.laws.proofs.Stored.{stored, few-groups}
 use Rattle.laws.proofs.Sets.{map-range-at}
 use Rattle.laws.proofs.Tree.{group-row-at}
 use Rattle.laws.proofs.Sides.{InOrder}
-use Rattle.columns.specs.Columns.{cell, store}
-use Rattle.laws.proofs.Numbers.{same-or-not, less-or-not}
+use Rattle.columns.specs.Columns.{cell}
+use Rattle.laws.proofs.Numbers.{same-or-not}
 use Rattle.columns.specs.Wiping.{Wiped, Cleaned}
 use Rattle.unions.specs.State.{Given, taken, taken-length, joinAt}
 use Rattle.groups.specs.Tree.{TreeDone, WorkPre, given-fits}

@@ -1,7 +1,5 @@
 // The groups of one level.
-ghost use mathlib.Core.Path.{_≡_};
-ghost use Prim.Native.Nat.{_+_, _*_, _<_, _≤_};
-ghost use lib.ListN.{length};
+ghost use Prim.Native.Nat.{_+_, _<_};
 ghost use Rattle.groups.specs.Marking.{MarkAsks, MarkGives, MarksAsks, MarksGives};
 ghost use Rattle.groups.specs.Numbering.{NumberAsks, NumberGives, NumbersAsks, NumbersGives};
 ghost use Rattle.groups.specs.Naming.{NameAsks, NameGives, NamesAsks, NamesGives, AdoptAsks, AdoptGives, AdoptsAsks, AdoptsGives};

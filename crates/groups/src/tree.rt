@@ -1,6 +1,6 @@
 // The whole: forest and groups by falling levels.
 ghost use mathlib.Core.Path.{_≡_};
-ghost use Prim.Native.Nat.{_+_, _*_, _<_, _≤_};
+ghost use Prim.Native.Nat.{_*_, _≤_};
 ghost use lib.ListN.{length};
 ghost use Rattle.groups.specs.Tree.{LevelsAsks, LevelsGives, WorkAsks, WorkGives};
 ghost use Rattle.groups.specs.Whole.{Ends, Tidied, TreeAsks, TreeGives};

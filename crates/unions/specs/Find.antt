@@ -1,15 +1,15 @@
 -- The root of a link in column 6: `halve`, `find`. Assumes nothing.
 use mathlib.Core.Path.{_≡_, refl, sym, ap, _∙_}
-use mathlib.Core.Logic.{_⊎_, inl, inr, _≢_}
+use mathlib.Core.Logic.{_≢_}
 use mathlib.Core.List.{List}
-use Prim.Native.Nat.{ℕ, suc, _+_, _*_, _≤_, _<_}
+use Prim.Native.Nat.{ℕ, _*_, _≤_, _<_}
 use native.Mathlib.Omega.{arith}
 use lib.ListN.{length, getD}
 use Rattle.laws.proofs.UnionFind.{Down, rootOf}
 use Rattle.laws.proofs.Unions.{root-stop}
-use Rattle.laws.proofs.Halving.{root-parent, root-fixed, root-below}
+use Rattle.laws.proofs.Halving.{root-parent}
 use Rattle.columns.specs.Columns.{cell, store}
-use Rattle.unions.specs.Space.{Steady, steady-none, steady-trans, steady-halve, roots, root, parents, parent-at, parents-length}
+use Rattle.unions.specs.Space.{Steady, steady-none, steady-trans, steady-halve, roots, root, parents, parent-at}
 
 pub record FindPre (m x : ℕ) (w : List ℕ) : Type 0 where
   pub size : length w ≡ 16 * m

@@ -1,20 +1,18 @@
 -- One join: passed if it closes a ring, taken if not. `unite`, `join`. Assumes nothing.
-use mathlib.Core.Path.{_≡_, refl, sym, ap, _∙_}
-use mathlib.Core.Logic.{_⊎_, inl, inr, _≢_}
+use mathlib.Core.Path.{_≡_, refl, sym, _∙_}
+use mathlib.Core.Logic.{_≢_}
 use mathlib.Core.List.{List}
 use mathlib.Core.List.{List·Memᴰ as In}
 use Prim.Native.Nat.{ℕ, suc, _+_, _*_, _≤_, _<_, min, max}
-use native.Mathlib.Omega.{arith}
-use lib.ListN.{length, getD}
+use lib.ListN.{length}
 use Rattle.truss.specs.Graph.{Graph}
-use Rattle.truss.specs.Forest.{Join, allJoins}
-use Rattle.laws.proofs.Components.{Same}
+use Rattle.truss.specs.Forest.{allJoins}
 use Rattle.laws.proofs.Halving.{same-parent}
 use Rattle.laws.proofs.Kruskal.{spot}
 use Rattle.columns.specs.Columns.{cell, store}
-use Rattle.unions.specs.Space.{Frame, frame-none, frame-trans, frame-wide, roots, joining, roots-joining, parents, parent-at, root, Steady, steady-trans}
+use Rattle.unions.specs.Space.{Frame, frame-none, frame-trans, frame-wide, roots, joining, roots-joining, parents, parent-at, root, steady-trans}
 use Rattle.unions.specs.Find.{FindPre, Found}
-use Rattle.unions.specs.State.{Given, Growth, growth-steady, growth-ring, growth-take, take-frame, take-room, join-ends, roots-same, labels, Stays, stays-frame, take-stays}
+use Rattle.unions.specs.State.{Growth, growth-steady, growth-ring, growth-take, take-frame, take-room, join-ends, roots-same, Stays, stays-frame, take-stays}
 
 pub record JoinPre (G : Graph) (m n e f k j : ℕ) (w : List ℕ) : Type 0 where
   pub growth : Growth G m n (spot k e f) j w

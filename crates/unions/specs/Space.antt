@@ -3,7 +3,7 @@ use mathlib.Core.Path.{_≡_, refl, sym, ap, _∙_, subst}
 use mathlib.Core.Logic.{_⊎_, inl, inr, _≢_}
 use mathlib.Core.Bool.{Bool, true, false, _||_}
 use mathlib.Core.List.{List, [], _∷_, map}
-use Prim.Native.Nat.{ℕ, zero, suc, _+_, _*_, _≤_, _<_}
+use Prim.Native.Nat.{ℕ, zero, suc, _*_, _≤_, _<_}
 use native.Mathlib.Omega.{arith}
 use lib.Dec.{eqb}
 use lib.ListN.{length, getD, set, length-map, length-set}
@@ -15,7 +15,7 @@ use Rattle.laws.proofs.Members.{range-length}
 use Rattle.laws.proofs.Sets.{map-range-at}
 use Rattle.laws.proofs.Halving.{halve-down, halve-roots}
 use Rattle.columns.specs.Columns.{cell, store}
-use Rattle.laws.proofs.Numbers.{same-or-not, less-or-not}
+use Rattle.laws.proofs.Numbers.{same-or-not}
 use Rattle.columns.specs.Laws.{Same, stored, kept-entry, kept-column, length-store}
 
 -- ---- the columns that a function may change
@@ -81,9 +81,6 @@ gathering-growing c h = or-left-false (gathering c) (joining c) h
 
 pub nexting-gathering : (c : ℕ) → gathering c ≡ false → nexting c ≡ false
 nexting-gathering c h = or-right-false (eqb c 5) (nexting c) (or-right-false (eqb c 3) (eqb c 5 || nexting c) h)
-
-pub roots-grouping : (c : ℕ) → grouping c ≡ false → roots c ≡ false
-roots-grouping c h = or-left-false (eqb c 6) (eqb c 8 || (eqb c 11 || (eqb c 12 || (eqb c 13 || (eqb c 14 || eqb c 15))))) h
 
 -- ---- column 6 as a list of parents
 

@@ -2,7 +2,7 @@
 -- 9 and 10 the joins taken. In order: the graph; the joins taken; the forest up to a place in the order of the joins. Assumes nothing.
 use mathlib.Core.Path.{_≡_, refl, sym, ap, _∙_, subst}
 use mathlib.Core.Logic.{_⊎_, inl, inr, _≢_}
-use mathlib.Core.Bool.{Bool, true, false}
+use mathlib.Core.Bool.{false}
 use mathlib.Core.List.{List, [], _∷_, _++_, map}
 use mathlib.Core.List.{List·Memᴰ as In}
 use Prim.Native.Nat.{ℕ, zero, suc, _+_, _*_, _≤_, _<_, _/_, _%_, min, max}
@@ -18,12 +18,12 @@ use Rattle.laws.proofs.Components.{label, Same, low, high, merge-keeps}
 use Rattle.laws.proofs.Unions.{Keeps, keeps-merge, store-down}
 use Rattle.laws.proofs.Halving.{root-fixed, root-below}
 use Rattle.laws.proofs.Groups.{size, strengthAt}
-use Rattle.laws.proofs.Sides.{InOrder, Sides, sidesWeight, join-of, JoinOf, first-two, outer-two, last-two}
+use Rattle.laws.proofs.Sides.{InOrder, Sides, join-of, JoinOf, first-two, outer-two, last-two}
 use Rattle.laws.proofs.Kruskal
-use Rattle.laws.proofs.Kruskal.{Grown, Left, Gone, spot, next, labelsOf, grown-skip, grown-take, room-to-take, components-append, reached, lighter, later, heavier, earlier, passed}
+use Rattle.laws.proofs.Kruskal.{Grown, Left, Gone, next, labelsOf, grown-skip, grown-take, room-to-take, components-append, reached, lighter, later}
 use Rattle.columns.specs.Columns.{cell, store}
 use Rattle.columns.specs.Laws.{stored, kept-entry, kept-column, length-store}
-use Rattle.unions.specs.Space.{Columns, Frame, frame-trans, frame-store, joining, parents, parent-at, parents-length, parents-same, parents-store, root, Steady}
+use Rattle.unions.specs.Space.{Columns, Frame, frame-trans, frame-store, joining, parents, parents-length, parents-same, parents-store, root, Steady}
 
 -- ---- the graph
 

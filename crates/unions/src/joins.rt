@@ -1,7 +1,6 @@
 // One join of the forest.
 ghost use mathlib.Core.Path.{_≡_};
-ghost use Prim.Native.Nat.{_+_, _*_, _<_, _≤_, min, max};
-ghost use lib.ListN.{length};
+ghost use Prim.Native.Nat.{_+_, _*_, _<_, min, max};
 ghost use Rattle.unions.specs.Joins.{UnitePre, united, JoinAsks, JoinGives};
 use crate::roots::find;
 use columns::HALF;

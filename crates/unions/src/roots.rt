@@ -1,7 +1,4 @@
 // The union-find forest of the links, in column PARENT: a parent is never above its child, so a root is the least link of its component.
-ghost use mathlib.Core.Path.{_≡_};
-ghost use Prim.Native.Nat.{_+_, _*_, _<_, _≤_};
-ghost use lib.ListN.{length};
 ghost use Rattle.unions.specs.Find.{FindPre, Found, HalvePre, Halved};
 use columns::PARENT;
 use columns::get;

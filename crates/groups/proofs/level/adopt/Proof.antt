@@ -1,10 +1,7 @@
 -- `groups::level::adopt` meets its contract. Assumes nothing.
 use Rattle.groups.specs.Naming.{AdoptsGives, adopts-none, adopts-one, adopts-more, adopts-all}
-use lib.ListN.{length}
-use Prim.Native.Nat.{ℕ, _+_, _*_, _-_, _≤_, _<_}
+use Prim.Native.Nat.{_-_, _≤_}
 use native.Mathlib.Omega.{arith}
-use mathlib.Core.Path.{_≡_, refl, _∙_, ap, sym}
-use borrow.Author.Needs.{needs}
 use Rattle.groups.proofs.level.adopt.Statement.{statement}
 use Rattle.groups.proofs.level.adopt.Tie as tie
 use Rattle.groups.proofs.level.adopt.Reads as reads
@@ -17,31 +14,24 @@ Inv-loop w₀ m k count g₀ w g = (g ≤ count) × AdoptsGives m k count g w₀
 abbrev μ-loop : tie.MeasureT-loop
 μ-loop w₀ m k count g₀ w g = count - g
 
--- src/level.rt:111:5
 loop-holds : tie.Need-loop-holds Inv-loop μ-loop
 loop-holds c = (omega arith, adopts-none)
 
--- src/level.rt:112:9
 adopt-one-requires : tie.Need-adopt-one-requires Inv-loop μ-loop
 adopt-one-requires c κs = (c .before .before .before .before .pre .0, c .before .before .before .before .pre .1, c .before .before .before .before .args .count, c .before .before .before .before .pre .2, c .before .before .before .before .pre .3, adopts-one (c .before .before .before .before .pre .4) (c .before .before .loop .inv .1) (c .before .loop-test .taken))
 
--- src/level.rt:113:9
 add-g : tie.Need-add-g Inv-loop μ-loop
 add-g c = omega (arith, c .before .before .before .before .loop-test .taken, c .before .before .before .before .before .before .before .pre .4 .c-in, c .before .before .before .before .before .before .before .pre .4 .ready .at .given .few)
 
--- src/level.rt:111:5
 loop-less : tie.Need-loop-less Inv-loop μ-loop
 loop-less c = omega (arith, c .before .before .before .before .loop-test .taken)
 
--- src/level.rt:111:5
 loop-again : tie.Need-loop-again Inv-loop μ-loop
 loop-again c = (omega (arith, c .before .before .before .before .loop-test .taken), adopts-more (c .before .before .before .before .before .loop .inv .1) (c .before .before .before .before .loop-test .taken) (c .before .before .adopt-one .ensures))
 
--- src/level.rt:106:1
 same-length : tie.Need-same-length Inv-loop μ-loop
 same-length c = c .before .loop .inv .1 .steady .frame .length-is
 
--- src/level.rt:106:1
 returns : tie.Need-returns Inv-loop μ-loop
 returns c = adopts-all (omega (arith, c .before .loop .inv .0, c .loop-test .left)) (c .before .loop .inv .1)
 

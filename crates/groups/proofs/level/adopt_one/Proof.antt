@@ -1,10 +1,8 @@
 -- `groups::level::adopt_one` meets its contract. Assumes nothing.
-use Rattle.groups.specs.Naming.{adopt-known, adopt-least, adopt-passed, adopt-fits, adopt-done}
+use Rattle.groups.specs.Naming.{adopt-known, adopt-least, adopt-passed, adopt-done}
 use Rattle.groups.specs.Marking.{at-find}
-use lib.ListN.{length}
-use Prim.Native.Nat.{ℕ, _+_, _*_, _-_, _≤_, _<_}
 use native.Mathlib.Omega.{arith}
-use mathlib.Core.Path.{_≡_, refl, _∙_, ap, sym}
+use mathlib.Core.Path.{_∙_}
 use borrow.Author.Needs.{needs}
 use Rattle.groups.proofs.level.adopt_one.Statement.{statement}
 use Rattle.groups.proofs.level.adopt_one.Tie as tie
@@ -14,51 +12,39 @@ use Rattle.columns.proofs.get.Reads as get-reads
 use Rattle.columns.proofs.put.Reads as put-reads
 use Rattle.unions.proofs.roots.find.Reads as find-reads
 
--- src/level.rt:94:8
 get-requires : tie.Need-get-requires
 get-requires c κs = (omega arith, (omega (arith, c .before .before .pre .5 .g-in, c .before .before .pre .5 .c-in), c .before .before .pre .5 .ready .at .given .size-is))
 
--- src/level.rt:95:9
 same-length : tie.Need-same-length
 same-length c = search needs
 
--- src/level.rt:95:9
 returns : tie.Need-returns
 returns c = adopt-known (c .before .get .ensures .0) (c .if1 .taken)
 
--- src/level.rt:97:9
 get-requires-2 : tie.Need-get-requires-2
 get-requires-2 c κs = (omega arith, (omega (arith, c .before .before .before .before .before .pre .5 .g-in, c .before .before .before .before .before .pre .5 .c-in), c .before .before .before .before .before .pre .5 .ready .at .given .size-is))
 
--- src/level.rt:98:9
 find-requires : tie.Need-find-requires
 find-requires c κs = at-find (c .before .before .before .before .before .before .before .pre .5 .ready .at) (adopt-least (c .before .before .before .before .before .before .before .pre .5) (c .before .get2 .ensures .0))
 
--- src/level.rt:99:8
 get-requires-3 : tie.Need-get-requires-3
 get-requires-3 c κs = (omega arith, (c .before .before .before .find .ensures .below, c .before .before .before .find .ensures .steady .frame .length-is ∙ c .before .before .before .before .before .before .before .before .before .before .before .pre .5 .ready .at .given .size-is))
 
--- src/level.rt:100:9
 same-length-2 : tie.Need-same-length-2
 same-length-2 c = search needs
 
--- src/level.rt:100:9
 returns-2 : tie.Need-returns-2
 returns-2 c = adopt-passed (c .before .before .before .before .before .before .before .before .before .before .get .ensures .0) (c .before .before .before .before .before .before .before .before .before .if1 .left) (c .before .before .before .before .before .before .before .get2 .ensures .0) (c .before .before .before .before .before .find .ensures) (c .before .get3 .ensures .0) (c .if2 .taken) (omega (arith, c .before .before .before .before .before .before .before .before .before .before .before .before .before .pre .5 .g-in, c .before .before .before .before .before .before .before .before .before .before .before .before .before .pre .5 .c-in))
 
--- src/level.rt:102:9
 get-requires-4 : tie.Need-get-requires-4
 get-requires-4 c κs = (omega arith, (c .before .before .before .before .before .before .find .ensures .below, c .before .before .before .before .before .before .find .ensures .steady .frame .length-is ∙ c .before .before .before .before .before .before .before .before .before .before .before .before .before .before .pre .5 .ready .at .given .size-is))
 
--- src/level.rt:103:5
 put-requires : tie.Need-put-requires
 put-requires c κs = (omega arith, (omega (arith, c .before .before .before .before .before .before .before .before .before .before .before .before .before .before .before .before .pre .5 .g-in, c .before .before .before .before .before .before .before .before .before .before .before .before .before .before .before .before .pre .5 .c-in), (c .before .get4 .ensures .1, c .before .before .before .before .before .before .before .before .find .ensures .steady .frame .length-is ∙ c .before .before .before .before .before .before .before .before .before .before .before .before .before .before .before .before .pre .5 .ready .at .given .size-is)))
 
--- src/level.rt:90:1
 same-length-3 : tie.Need-same-length-3
 same-length-3 c = search needs
 
--- src/level.rt:90:1
 returns-3 : tie.Need-returns-3
 returns-3 c = adopt-done (c .before .before .before .before .before .before .before .before .before .before .before .before .before .before .before .before .get .ensures .0) (c .before .before .before .before .before .before .before .before .before .before .before .before .before .before .before .if1 .left) (c .before .before .before .before .before .before .before .before .before .before .before .before .before .get2 .ensures .0) (c .before .before .before .before .before .before .before .before .before .before .before .find .ensures) (c .before .before .before .before .before .before .before .get3 .ensures .0) (c .before .before .before .before .before .before .if2 .left) (c .before .before .before .before .get4 .ensures .0) (omega (arith, c .before .before .before .before .before .before .before .before .before .before .before .before .before .before .before .before .before .before .before .pre .5 .g-in, c .before .before .before .before .before .before .before .before .before .before .before .before .before .before .before .before .before .before .before .pre .5 .c-in)) (c .before .before .before .before .before .before .before .before .before .before .before .before .before .before .before .before .before .before .before .pre .5 .ready .at .given .size-is) (c .before .before .put .ensures)
 

@@ -1,9 +1,5 @@
 -- `groups::level::group` meets its contract. Assumes nothing.
 use Rattle.groups.specs.Level.{group-marks, group-numbers, group-names, group-adopts, group-gives}
-use lib.ListN.{length}
-use Prim.Native.Nat.{ℕ, _+_, _*_, _-_, _≤_, _<_}
-use native.Mathlib.Omega.{arith}
-use mathlib.Core.Path.{_≡_, refl, _∙_, ap, sym}
 use borrow.Author.Needs.{needs}
 use Rattle.groups.proofs.level.group.Statement.{statement}
 use Rattle.groups.proofs.level.group.Tie as tie
@@ -14,27 +10,21 @@ use Rattle.groups.proofs.level.mark_roots.Reads as mark-roots-reads
 use Rattle.groups.proofs.level.name_groups.Reads as name-groups-reads
 use Rattle.groups.proofs.level.number_roots.Reads as number-roots-reads
 
--- src/level.rt:123:5
 mark-roots-requires : tie.Need-mark-roots-requires
 mark-roots-requires c κs = (c .before .before .pre .0, c .before .before .pre .1, group-marks (c .before .before .pre .4))
 
--- src/level.rt:124:9
 number-roots-requires : tie.Need-number-roots-requires
 number-roots-requires c κs = (c .before .before .before .before .before .before .pre .0, c .before .before .before .before .before .before .pre .1, c .before .before .before .before .before .before .pre .2, c .before .before .before .before .before .before .pre .3, group-numbers (c .before .before .before .mark-roots .ensures) (c .before .before .before .before .before .before .pre .4))
 
--- src/level.rt:125:5
 name-groups-requires : tie.Need-name-groups-requires
 name-groups-requires c κs = (c .before .before .before .before .before .before .before .before .before .before .pre .0, c .before .before .before .before .before .before .before .before .before .before .pre .1, c .before .before .before .before .before .before .before .before .before .before .pre .2, c .before .before .before .before .before .before .before .before .before .before .pre .3, group-names (c .before .before .before .before .before .before .before .mark-roots .ensures) (c .before .before .before .number-roots .ensures) (c .before .before .before .before .before .before .before .before .before .before .pre .4))
 
--- src/level.rt:126:5
 adopt-requires : tie.Need-adopt-requires
 adopt-requires c κs = (c .before .before .before .before .before .before .before .before .before .before .before .before .before .before .pre .0, c .before .before .before .before .before .before .before .before .before .before .before .before .before .before .pre .1, c .before .before .before .before .before .before .before .before .before .before .before .before .before .before .pre .2, c .before .before .before .before .before .before .before .before .before .before .before .before .before .before .pre .3, group-adopts (c .before .before .before .before .before .before .before .before .before .before .before .mark-roots .ensures) (c .before .before .before .before .before .before .before .number-roots .ensures) (c .before .before .before .name-groups .ensures) (c .before .before .before .before .before .before .before .before .before .before .before .before .before .before .pre .4))
 
--- src/level.rt:119:1
 same-length : tie.Need-same-length
 same-length c = search needs
 
--- src/level.rt:119:1
 returns : tie.Need-returns
 returns c = group-gives (c .before .before .before .before .before .before .before .before .before .before .before .before .before .before .mark-roots .ensures) (c .before .before .before .before .before .before .before .before .before .before .number-roots .ensures) (c .before .before .before .before .before .before .name-groups .ensures) (c .before .before .adopt .ensures)
 

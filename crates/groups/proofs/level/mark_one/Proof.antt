@@ -1,9 +1,7 @@
 -- `groups::level::mark_one` meets its contract. Assumes nothing.
 use Rattle.groups.specs.Marking.{mark-passed, mark-done, at-find}
-use lib.ListN.{length}
-use Prim.Native.Nat.{ℕ, _+_, _*_, _-_, _≤_, _<_}
 use native.Mathlib.Omega.{arith}
-use mathlib.Core.Path.{_≡_, refl, _∙_, ap, sym}
+use mathlib.Core.Path.{_∙_}
 use borrow.Author.Needs.{needs}
 use Rattle.groups.proofs.level.mark_one.Statement.{statement}
 use Rattle.groups.proofs.level.mark_one.Tie as tie
@@ -13,31 +11,24 @@ use Rattle.columns.proofs.get.Reads as get-reads
 use Rattle.columns.proofs.put.Reads as put-reads
 use Rattle.unions.proofs.roots.find.Reads as find-reads
 
--- src/level.rt:15:8
 get-requires : tie.Need-get-requires
 get-requires c κs = search needs
 
--- src/level.rt:16:9
 same-length : tie.Need-same-length
 same-length c = search needs
 
--- src/level.rt:16:9
 returns : tie.Need-returns
 returns c = mark-passed (c .before .get .ensures .0) (c .if1 .taken)
 
--- src/level.rt:18:9
 find-requires : tie.Need-find-requires
 find-requires c κs = at-find (c .before .before .before .before .before .pre .2 .at) (c .before .before .before .before .before .pre .2 .e-in)
 
--- src/level.rt:19:5
 put-requires : tie.Need-put-requires
 put-requires c κs = (omega arith, (c .before .before .before .find .ensures .below, (omega (arith, c .before .before .before .before .before .before .before .before .before .pre .2 .at .light), c .before .before .before .find .ensures .steady .frame .length-is ∙ c .before .before .before .before .before .before .before .before .before .pre .2 .at .given .size-is)))
 
--- src/level.rt:11:1
 same-length-2 : tie.Need-same-length-2
 same-length-2 c = search needs
 
--- src/level.rt:11:1
 returns-2 : tie.Need-returns-2
 returns-2 c = mark-done ((c .before .before .before .before .before .before .before .before .before .before .before .before .pre)) (c .before .before .before .before .before .before .before .before .before .get .ensures .0) (c .before .before .before .before .before .before .before .before .if1 .left) (c .before .before .before .before .before .before .find .ensures) (c .before .before .put .ensures)
 

@@ -1,10 +1,7 @@
 -- `groups::level::mark_roots` meets its contract. Assumes nothing.
 use Rattle.groups.specs.Marking.{MarksGives, marks-none, marks-one, marks-more, marks-all}
-use lib.ListN.{length}
-use Prim.Native.Nat.{ℕ, _+_, _*_, _-_, _≤_, _<_}
+use Prim.Native.Nat.{_-_, _≤_}
 use native.Mathlib.Omega.{arith}
-use mathlib.Core.Path.{_≡_, refl, _∙_, ap, sym}
-use borrow.Author.Needs.{needs}
 use Rattle.groups.proofs.level.mark_roots.Statement.{statement}
 use Rattle.groups.proofs.level.mark_roots.Tie as tie
 use Rattle.groups.proofs.level.mark_roots.Reads as reads
@@ -17,31 +14,24 @@ Inv-loop w₀ m k e₀ w e = (e ≤ m) × MarksGives m k e w₀ w
 abbrev μ-loop : tie.MeasureT-loop
 μ-loop w₀ m k e₀ w e = m - e
 
--- src/level.rt:28:5
 loop-holds : tie.Need-loop-holds Inv-loop μ-loop
 loop-holds c = (omega arith, marks-none)
 
--- src/level.rt:29:9
 mark-one-requires : tie.Need-mark-one-requires Inv-loop μ-loop
 mark-one-requires c κs = (c .before .before .before .before .pre .0, c .before .before .before .before .pre .1, marks-one (c .before .before .before .before .pre .2) (c .before .before .loop .inv .1) (c .before .loop-test .taken))
 
--- src/level.rt:30:9
 add-e : tie.Need-add-e Inv-loop μ-loop
 add-e c = omega (arith, c .before .before .before .before .loop-test .taken, c .before .before .before .before .before .before .before .pre .2 .at .given .few)
 
--- src/level.rt:28:5
 loop-less : tie.Need-loop-less Inv-loop μ-loop
 loop-less c = omega (arith, c .before .before .before .before .loop-test .taken)
 
--- src/level.rt:28:5
 loop-again : tie.Need-loop-again Inv-loop μ-loop
 loop-again c = (omega (arith, c .before .before .before .before .loop-test .taken), marks-more (c .before .before .before .before .before .loop .inv .1) (c .before .before .before .before .loop-test .taken) (c .before .before .mark-one .ensures))
 
--- src/level.rt:23:1
 same-length : tie.Need-same-length Inv-loop μ-loop
 same-length c = c .before .loop .inv .1 .steady .frame .length-is
 
--- src/level.rt:23:1
 returns : tie.Need-returns Inv-loop μ-loop
 returns c = marks-all (omega (arith, c .before .loop .inv .0, c .loop-test .left)) (c .before .loop .inv .1)
 

@@ -1,10 +1,7 @@
 -- `groups::level::name_groups` meets its contract. Assumes nothing.
 use Rattle.groups.specs.Naming.{NamesGives, names-none, names-one, names-more, names-all}
-use lib.ListN.{length}
-use Prim.Native.Nat.{ℕ, _+_, _*_, _-_, _≤_, _<_}
+use Prim.Native.Nat.{_-_, _≤_}
 use native.Mathlib.Omega.{arith}
-use mathlib.Core.Path.{_≡_, refl, _∙_, ap, sym}
-use borrow.Author.Needs.{needs}
 use Rattle.groups.proofs.level.name_groups.Statement.{statement}
 use Rattle.groups.proofs.level.name_groups.Tie as tie
 use Rattle.groups.proofs.level.name_groups.Reads as reads
@@ -17,31 +14,24 @@ Inv-loop w₀ m k e₀ w e = (e ≤ m) × NamesGives m k e w₀ w
 abbrev μ-loop : tie.MeasureT-loop
 μ-loop w₀ m k e₀ w e = m - e
 
--- src/level.rt:83:5
 loop-holds : tie.Need-loop-holds Inv-loop μ-loop
 loop-holds c = (omega arith, names-none)
 
--- src/level.rt:84:9
 name-one-requires : tie.Need-name-one-requires Inv-loop μ-loop
 name-one-requires c κs = (c .before .before .before .before .pre .0, c .before .before .before .before .pre .1, c .before .before .before .before .pre .2, c .before .before .before .before .pre .3, names-one (c .before .before .before .before .pre .4) (c .before .before .loop .inv .1) (c .before .loop-test .taken))
 
--- src/level.rt:85:9
 add-e : tie.Need-add-e Inv-loop μ-loop
 add-e c = omega (arith, c .before .before .before .before .loop-test .taken, c .before .before .before .before .before .before .before .pre .4 .ready .at .given .few)
 
--- src/level.rt:83:5
 loop-less : tie.Need-loop-less Inv-loop μ-loop
 loop-less c = omega (arith, c .before .before .before .before .loop-test .taken)
 
--- src/level.rt:83:5
 loop-again : tie.Need-loop-again Inv-loop μ-loop
 loop-again c = (omega (arith, c .before .before .before .before .loop-test .taken), names-more (c .before .before .before .before .before .loop .inv .1) (c .before .before .before .before .loop-test .taken) (c .before .before .name-one .ensures))
 
--- src/level.rt:78:1
 same-length : tie.Need-same-length Inv-loop μ-loop
 same-length c = c .before .loop .inv .1 .steady .frame .length-is
 
--- src/level.rt:78:1
 returns : tie.Need-returns Inv-loop μ-loop
 returns c = names-all (omega (arith, c .before .loop .inv .0, c .loop-test .left)) (c .before .loop .inv .1)
 

@@ -1,10 +1,8 @@
 -- `groups::level::name_one` meets its contract. Assumes nothing.
-use Rattle.groups.specs.Naming.{name-passed, name-fits, name-done}
+use Rattle.groups.specs.Naming.{name-passed, name-done}
 use Rattle.groups.specs.Marking.{at-find}
-use lib.ListN.{length}
-use Prim.Native.Nat.{ℕ, _+_, _*_, _-_, _≤_, _<_}
 use native.Mathlib.Omega.{arith}
-use mathlib.Core.Path.{_≡_, refl, _∙_, ap, sym}
+use mathlib.Core.Path.{_∙_}
 use borrow.Author.Needs.{needs}
 use Rattle.groups.proofs.level.name_one.Statement.{statement}
 use Rattle.groups.proofs.level.name_one.Tie as tie
@@ -14,35 +12,27 @@ use Rattle.columns.proofs.get.Reads as get-reads
 use Rattle.columns.proofs.put.Reads as put-reads
 use Rattle.unions.proofs.roots.find.Reads as find-reads
 
--- src/level.rt:70:8
 get-requires : tie.Need-get-requires
 get-requires c κs = (omega arith, (c .before .before .pre .4 .e-in, c .before .before .pre .4 .ready .at .given .size-is))
 
--- src/level.rt:71:9
 same-length : tie.Need-same-length
 same-length c = search needs
 
--- src/level.rt:71:9
 returns : tie.Need-returns
 returns c = name-passed (c .before .get .ensures .0) (c .if1 .taken)
 
--- src/level.rt:73:9
 find-requires : tie.Need-find-requires
 find-requires c κs = at-find (c .before .before .before .before .before .pre .4 .ready .at) (c .before .before .before .before .before .pre .4 .e-in)
 
--- src/level.rt:74:9
 get-requires-2 : tie.Need-get-requires-2
 get-requires-2 c κs = (omega arith, (c .before .before .before .find .ensures .below, c .before .before .before .find .ensures .steady .frame .length-is ∙ c .before .before .before .before .before .before .before .before .before .pre .4 .ready .at .given .size-is))
 
--- src/level.rt:75:5
 put-requires : tie.Need-put-requires
 put-requires c κs = (omega arith, (c .before .before .before .before .before .before .before .before .before .before .before .pre .4 .e-in, (c .before .get2 .ensures .1, c .before .before .before .before .before .find .ensures .steady .frame .length-is ∙ c .before .before .before .before .before .before .before .before .before .before .before .pre .4 .ready .at .given .size-is)))
 
--- src/level.rt:66:1
 same-length-2 : tie.Need-same-length-2
 same-length-2 c = search needs
 
--- src/level.rt:66:1
 returns-2 : tie.Need-returns-2
 returns-2 c = name-done (c .before .before .before .before .before .before .before .before .before .before .before .get .ensures .0) (c .before .before .before .before .before .before .before .before .before .before .if1 .left) (c .before .before .before .before .before .before .before .before .find .ensures) ((c .before .before .before .before .before .before .before .before .before .before .before .before .before .before .pre)) (c .before .before .before .before .get2 .ensures .0) (c .before .before .put .ensures)
 

@@ -1,10 +1,7 @@
 -- `groups::level::number_roots` meets its contract. Assumes nothing.
 use Rattle.groups.specs.Numbering.{NumbersGives, numbers-none, numbers-one, numbers-more, numbers-all}
-use lib.ListN.{length}
-use Prim.Native.Nat.{ℕ, _+_, _*_, _-_, _≤_, _<_}
+use Prim.Native.Nat.{_-_, _≤_}
 use native.Mathlib.Omega.{arith}
-use mathlib.Core.Path.{_≡_, refl, _∙_, ap, sym}
-use borrow.Author.Needs.{needs}
 use Rattle.groups.proofs.level.number_roots.Statement.{statement}
 use Rattle.groups.proofs.level.number_roots.Tie as tie
 use Rattle.groups.proofs.level.number_roots.Reads as reads
@@ -17,31 +14,24 @@ Inv-loop w₀ m k from g₀ r₀ w g r = (r ≤ m) × NumbersGives m k r from g 
 abbrev μ-loop : tie.MeasureT-loop
 μ-loop w₀ m k from g₀ r₀ w g r = m - r
 
--- src/level.rt:58:5
 loop-holds : tie.Need-loop-holds Inv-loop μ-loop
 loop-holds c = (omega arith, numbers-none)
 
--- src/level.rt:59:9
 number-one-requires : tie.Need-number-one-requires Inv-loop μ-loop
 number-one-requires c κs = (c .before .before .before .before .pre .0, c .before .before .before .before .pre .1, c .before .before .before .before .pre .2, c .before .before .before .before .pre .3, numbers-one (c .before .before .before .before .pre .4) (c .before .before .loop .inv .1) (c .before .loop-test .taken))
 
--- src/level.rt:60:9
 add-r : tie.Need-add-r Inv-loop μ-loop
 add-r c = omega (arith, c .before .before .before .before .loop-test .taken, c .before .before .before .before .before .before .before .pre .4 .at .given .few)
 
--- src/level.rt:58:5
 loop-less : tie.Need-loop-less Inv-loop μ-loop
 loop-less c = omega (arith, c .before .before .before .before .loop-test .taken)
 
--- src/level.rt:58:5
 loop-again : tie.Need-loop-again Inv-loop μ-loop
 loop-again c = (omega (arith, c .before .before .before .before .loop-test .taken), numbers-more (c .before .before .before .before .before .loop .inv .1) (c .before .before .before .before .loop-test .taken) (c .before .before .number-one .ensures))
 
--- src/level.rt:52:1
 same-length : tie.Need-same-length Inv-loop μ-loop
 same-length c = c .before .loop .inv .1 .frame .length-is
 
--- src/level.rt:52:1
 returns : tie.Need-returns Inv-loop μ-loop
 returns c = numbers-all (omega (arith, c .before .loop .inv .0, c .loop-test .left)) (c .before .loop .inv .1)
 

@@ -1,13 +1,13 @@
 -- `groups::tree::levels` meets its contract. Assumes nothing.
-use Rattle.groups.specs.Tree.{LevelsPre, TreeAt, levels-first, tree-given, tree-level, tree-group, tree-less, tree-next, tree-end}
+use Rattle.groups.specs.Tree.{LevelsPre, TreeAt, levels-first, tree-level, tree-group, tree-less, tree-next, tree-end}
 use Rattle.laws.proofs.Sides.{InOrder}
 use Rattle.laws.proofs.Groups.{size}
 use Rattle.truss.specs.Limits.{noGroup}
 use Rattle.truss.specs.Graph.{Graph}
 use lib.ListN.{length}
-use Prim.Native.Nat.{ℕ, _+_, _*_, _-_, _≤_, _<_}
+use Prim.Native.Nat.{_≤_}
 use native.Mathlib.Omega.{arith}
-use mathlib.Core.Path.{_≡_, refl, _∙_, ap, sym}
+use mathlib.Core.Path.{_≡_, refl, _∙_}
 use borrow.Author.Needs.{needs}
 use Rattle.groups.proofs.tree.levels.Statement.{statement}
 use Rattle.groups.proofs.tree.levels.Tie as tie
@@ -23,43 +23,33 @@ Inv-loop w₀ m n row mark₀ joins₀ groups₀ k₀ w mark joins groups k = (l
 abbrev μ-loop : tie.MeasureT-loop
 μ-loop w₀ m n row mark₀ joins₀ groups₀ k₀ w mark joins groups k = k
 
--- src/tree.rt:26:9
 top-requires : tie.Need-top-requires Inv-loop μ-loop
 top-requires c κs = (c .before .before .before .before .pre .3 .between .growth .given .size-is, c .before .before .before .before .pre .3 .between .growth .given .few)
 
--- src/tree.rt:27:5
 loop-holds : tie.Need-loop-holds Inv-loop μ-loop
 loop-holds c = (refl, refl, λ G o fits P. levels-first P (c .top .ensures))
 
--- src/tree.rt:28:9
 level-requires : tie.Need-level-requires Inv-loop μ-loop
 level-requires c κs = (c .before .before .before .before .before .before .before .before .before .pre .0, tree-level (c .before .before .before .loop .inv .2 (c .before .before .before .before .before .before .before .before .before .pre .0) (c .before .before .before .before .before .before .before .before .before .pre .1) (c .before .before .before .before .before .before .before .before .before .pre .2) (c .before .before .before .before .before .before .before .before .before .pre .3)) (c .before .before .loop-test .taken) (c .before .before .before .before .before .before .before .before .before .pre .3 .rows) (omega (arith, c .before .before .before .loop .inv .1, c .before .before .before .before .before .before .before .before .before .pre .3 .wide)))
 
--- src/tree.rt:29:9
 group-requires : tie.Need-group-requires Inv-loop μ-loop
 group-requires c κs = (c .before .before .before .before .before .before .before .before .before .before .before .before .before .before .before .pre .0, c .before .before .before .before .before .before .before .before .before .before .before .before .before .before .before .args .n, c .before .before .before .before .before .before .before .before .before .before .before .before .before .before .before .pre .1, c .before .before .before .before .before .before .before .before .before .before .before .before .before .before .before .pre .2, tree-group (c .before .before .before .before .before .before .before .before .before .loop .inv .2 (c .before .before .before .before .before .before .before .before .before .before .before .before .before .before .before .pre .0) (c .before .before .before .before .before .before .before .before .before .before .before .before .before .before .before .pre .1) (c .before .before .before .before .before .before .before .before .before .before .before .before .before .before .before .pre .2) (c .before .before .before .before .before .before .before .before .before .before .before .before .before .before .before .pre .3)) (c .before .before .before .before .before .before .before .before .loop-test .taken) (c .before .before .before .before .before .before .before .before .before .before .before .before .before .before .before .pre .3 .rows) (omega (arith, c .before .before .before .before .before .before .before .before .before .loop .inv .1, c .before .before .before .before .before .before .before .before .before .before .before .before .before .before .before .pre .3 .wide)) (c .before .before .before .before .before .level .ensures))
 
--- src/tree.rt:30:9
 top-requires-2 : tie.Need-top-requires-2 Inv-loop μ-loop
 top-requires-2 c κs = (c .before .before .before .group .ensures .steady .frame .length-is ∙ c .before .before .before .before .before .before .before .before .before .level .ensures .frame .length-is ∙ c .before .before .before .before .before .before .before .before .before .before .before .before .before .loop .inv .0 ∙ c .before .before .before .before .before .before .before .before .before .before .before .before .before .before .before .before .before .before .before .pre .3 .between .growth .given .size-is, c .before .before .before .before .before .before .before .before .before .before .before .before .before .before .before .before .before .before .before .pre .3 .between .growth .given .few)
 
--- src/tree.rt:27:5
 loop-less : tie.Need-loop-less Inv-loop μ-loop
 loop-less c = tree-less (c .before .before .before .before .before .before .before .before .before .before .before .before .before .before .loop .inv .2 (c .before .before .before .before .before .before .before .before .before .before .before .before .before .before .before .before .before .before .before .before .pre .0) (c .before .before .before .before .before .before .before .before .before .before .before .before .before .before .before .before .before .before .before .before .pre .1) (c .before .before .before .before .before .before .before .before .before .before .before .before .before .before .before .before .before .before .before .before .pre .2) (c .before .before .before .before .before .before .before .before .before .before .before .before .before .before .before .before .before .before .before .before .pre .3)) (c .before .before .before .before .before .before .before .before .before .before .before .before .before .loop-test .taken) (c .before .before .before .before .before .before .before .before .before .before .before .before .before .before .before .before .before .before .before .before .pre .3 .rows) (omega (arith, c .before .before .before .before .before .before .before .before .before .before .before .before .before .before .loop .inv .1, c .before .before .before .before .before .before .before .before .before .before .before .before .before .before .before .before .before .before .before .before .pre .3 .wide)) (c .before .before .before .before .before .before .before .before .before .before .level .ensures) (c .before .before .before .before .group .ensures) (c .top2 .ensures)
 
--- src/tree.rt:27:5
 loop-again : tie.Need-loop-again Inv-loop μ-loop
 loop-again c = (c .before .before .before .before .group .ensures .steady .frame .length-is ∙ c .before .before .before .before .before .before .before .before .before .before .level .ensures .frame .length-is ∙ c .before .before .before .before .before .before .before .before .before .before .before .before .before .before .loop .inv .0, search needs, λ G o fits P. tree-next (c .before .before .before .before .before .before .before .before .before .before .before .before .before .before .loop .inv .2 G o fits P) (c .before .before .before .before .before .before .before .before .before .before .before .before .before .loop-test .taken) (P .rows) (omega (arith, c .before .before .before .before .before .before .before .before .before .before .before .before .before .before .loop .inv .1, P .wide)) (c .before .before .before .before .before .before .before .before .before .before .level .ensures) (c .before .before .before .before .group .ensures) (c .top2 .ensures))
 
--- src/tree.rt:20:1
 same-length : tie.Need-same-length Inv-loop μ-loop
 same-length c = c .before .loop .inv .0
 
--- src/tree.rt:20:1
 same-length-2 : tie.Need-same-length-2 Inv-loop μ-loop
 same-length-2 c = c .before .loop .inv .1
 
--- src/tree.rt:20:1
 returns : tie.Need-returns Inv-loop μ-loop
 returns c = λ G o fits P. tree-end (c .before .loop .inv .2 G o fits P) (omega (arith, c .loop-test .left))
 

@@ -1,9 +1,5 @@
 -- `groups::tree::tidy` meets its contract. Assumes nothing.
 use Rattle.groups.specs.Whole.{tidied}
-use lib.ListN.{length}
-use Prim.Native.Nat.{ℕ, _+_, _*_, _-_, _≤_, _<_}
-use native.Mathlib.Omega.{arith}
-use mathlib.Core.Path.{_≡_, refl, _∙_, ap, sym}
 use borrow.Author.Needs.{needs}
 use Rattle.groups.proofs.tree.tidy.Statement.{statement}
 use Rattle.groups.proofs.tree.tidy.Tie as tie
@@ -12,27 +8,21 @@ use Rattle.groups.proofs.tree.tidy.Lts as lts
 use Rattle.columns.proofs.wipe_all.Reads as wipe-all-reads
 use Rattle.groups.proofs.tree.wipe_ends.Reads as wipe-ends-reads
 
--- src/tree.rt:102:5
 wipe-ends-requires : tie.Need-wipe-ends-requires
 wipe-ends-requires c κs = search needs
 
--- src/tree.rt:103:5
 wipe-all-requires : tie.Need-wipe-all-requires
 wipe-all-requires c κs = search needs
 
--- src/tree.rt:104:5
 wipe-all-requires-2 : tie.Need-wipe-all-requires-2
 wipe-all-requires-2 c κs = search needs
 
--- src/tree.rt:105:5
 wipe-all-requires-3 : tie.Need-wipe-all-requires-3
 wipe-all-requires-3 c κs = search needs
 
--- src/tree.rt:95:1
 same-length : tie.Need-same-length
 same-length c = search needs
 
--- src/tree.rt:95:1
 returns : tie.Need-returns
 returns c = tidied (c .before .before .before .before .before .before .before .before .before .before .before .before .before .before .wipe-ends .ensures) (c .before .before .before .before .before .before .before .before .before .before .wipe-all .ensures) (c .before .before .before .before .before .before .wipe-all2 .ensures) (c .before .before .wipe-all3 .ensures)
 

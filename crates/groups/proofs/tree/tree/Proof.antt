@@ -1,10 +1,7 @@
 -- `groups::tree::tree` meets its contract. Assumes nothing.
 use Rattle.groups.specs.Whole.{tree-work, tree-fits, tree-all}
 use Rattle.groups.specs.Tree.{given-fits}
-use lib.ListN.{length}
-use Prim.Native.Nat.{ℕ, _+_, _*_, _-_, _≤_, _<_}
 use native.Mathlib.Omega.{arith}
-use mathlib.Core.Path.{_≡_, refl, _∙_, ap, sym}
 use borrow.Author.Needs.{needs}
 use Rattle.groups.proofs.tree.tree.Statement.{statement}
 use Rattle.groups.proofs.tree.tree.Tie as tie
@@ -14,37 +11,29 @@ use Rattle.groups.proofs.tree.room.Reads as room-reads
 use Rattle.groups.proofs.tree.tidy.Reads as tidy-reads
 use Rattle.groups.proofs.tree.work.Reads as work-reads
 
--- src/tree.rt:118:19
 room-requires : tie.Need-room-requires
 room-requires c κs = search needs
 
--- src/tree.rt:119:20
 room-requires-2 : tie.Need-room-requires-2
 room-requires-2 c κs = search needs
 
--- src/tree.rt:120:27
 slice-aggregate-work : tie.Need-slice-aggregate-work
 slice-aggregate-work c = search needs
 
--- src/tree.rt:120:37
 slice-aggregate-work-2 : tie.Need-slice-aggregate-work-2
 slice-aggregate-work-2 c = search needs
 
--- src/tree.rt:120:9
 work-requires : tie.Need-work-requires
 work-requires c κs = (c .before .before .before .before .before .before .pre .0, tree-work (c .before .before .before .before .before .before .pre .1) (omega arith) (omega arith))
 
--- src/tree.rt:121:5
 tidy-requires : tie.Need-tidy-requires
 tidy-requires c κs =
     let D = c .before .before .before .before .before .work .ensures (c .before .before .before .before .before .before .before .before .before .before .before .before .pre .0) (c .before .before .before .before .before .before .before .before .before .before .before .before .pre .1 .order) (given-fits (c .before .before .before .before .before .before .before .before .before .before .before .before .pre .1)) (tree-work (c .before .before .before .before .before .before .before .before .before .before .before .before .pre .1) (omega arith) (omega arith)) in
     (D .given .size-is, (D .within, (tree-fits D, c .before .before .before .before .before .before .before .before .before .before .before .before .pre .1 .few)))
 
--- src/tree.rt:114:1
 same-length : tie.Need-same-length
 same-length c = search needs
 
--- src/tree.rt:114:1
 returns : tie.Need-returns
 returns c = λ G d. tree-all d (c .before .before .before .before .before .before .before .before .work .ensures G (d .order) (given-fits d) (tree-work d (omega arith) (omega arith))) (c .before .before .tidy .ensures)
 

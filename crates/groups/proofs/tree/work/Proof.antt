@@ -1,9 +1,5 @@
 -- `groups::tree::work` meets its contract. Assumes nothing.
 use Rattle.groups.specs.Tree.{work-rows, work-levels, given-fits}
-use lib.ListN.{length}
-use Prim.Native.Nat.{ℕ, _+_, _*_, _-_, _≤_, _<_}
-use native.Mathlib.Omega.{arith}
-use mathlib.Core.Path.{_≡_, refl, _∙_, ap, sym}
 use borrow.Author.Needs.{needs}
 use Rattle.groups.proofs.tree.work.Statement.{statement}
 use Rattle.groups.proofs.tree.work.Tie as tie
@@ -13,31 +9,24 @@ use Rattle.forest.proofs.level.prepare.Reads as prepare-reads
 use Rattle.forest.proofs.rows.rows.Reads as rows-reads
 use Rattle.groups.proofs.tree.levels.Reads as levels-reads
 
--- src/tree.rt:43:5
 rows-requires : tie.Need-rows-requires
 rows-requires c κs = (c .before .before .before .before .before .pre .0, work-rows (c .before .before .before .before .before .pre .1))
 
--- src/tree.rt:44:5
 prepare-requires : tie.Need-prepare-requires
 prepare-requires c κs = search needs
 
--- src/tree.rt:45:5
 levels-requires : tie.Need-levels-requires
 levels-requires c κs = (c .before .before .before .before .before .before .before .before .before .before .before .before .before .before .before .pre .0, c .before .before .before .before .before .before .before .before .before .before .before .before .before .before .before .pre .1 .given .order, given-fits (c .before .before .before .before .before .before .before .before .before .before .before .before .before .before .before .pre .1 .given), work-levels (c .before .before .before .before .before .before .before .before .before .before .before .before .before .before .before .pre .1) (c .before .before .before .before .before .before .before .before .before .rows .ensures) (c .before .before .before .before .before .prepare .ensures))
 
--- src/tree.rt:39:1
 same-length : tie.Need-same-length
 same-length c = search needs
 
--- src/tree.rt:39:1
 same-length-2 : tie.Need-same-length-2
 same-length-2 c = search needs
 
--- src/tree.rt:39:1
 same-length-3 : tie.Need-same-length-3
 same-length-3 c = search needs
 
--- src/tree.rt:39:1
 returns : tie.Need-returns
 returns c = λ G o fits P. c .before .before .before .before .levels .ensures G o fits (work-levels P (c .before .before .before .before .before .before .before .before .before .before .before .before .before .before .rows .ensures) (c .before .before .before .before .before .before .before .before .before .before .prepare .ensures))
 

@@ -1,6 +1,6 @@
 -- `unions::joins::join` meets its contract. Assumes nothing.
 use native.Mathlib.Omega.{arith}
-use mathlib.Core.Path.{_≡_, refl, _∙_, ap, sym}
+use mathlib.Core.Path.{_∙_, sym}
 use Rattle.unions.specs.Joins.{join-in, join-find, join-find-next, join-unite, join-early, join-late, join-done}
 use borrow.Author.Needs.{needs}
 use Rattle.unions.proofs.joins.join.Statement.{statement}
@@ -11,51 +11,39 @@ use Rattle.columns.proofs.get.Reads as get-reads
 use Rattle.unions.proofs.joins.unite.Reads as unite-reads
 use Rattle.unions.proofs.roots.find.Reads as find-reads
 
--- src/joins.rt:39:8
 get-requires : tie.Need-get-requires
 get-requires c κs = (omega arith, (join-in (c .before .before .pre .2) .0, c .before .before .pre .2 .growth .given .size-is))
 
--- src/joins.rt:39:27
 get-requires-2 : tie.Need-get-requires-2
 get-requires-2 c κs = (omega arith, (join-in (c .before .before .before .before .pre .2) .1, c .before .before .before .before .pre .2 .growth .given .size-is))
 
--- src/joins.rt:40:9
 same-length : tie.Need-same-length
 same-length c = search needs
 
--- src/joins.rt:40:9
 returns : tie.Need-returns
 returns c = join-early (sym (c .before .before .before .get .ensures .0) ∙ c .if1 .taken ∙ c .before .get2 .ensures .0)
 
--- src/joins.rt:42:9
 find-requires : tie.Need-find-requires
 find-requires c κs = join-find (c .before .before .before .before .before .before .before .pre .2)
 
--- src/joins.rt:43:9
 find-requires-2 : tie.Need-find-requires-2
 find-requires-2 c κs = join-find-next (c .before .before .before .before .before .before .before .before .before .before .before .pre .2) (c .before .before .before .find .ensures)
 
--- src/joins.rt:45:9
 same-length-2 : tie.Need-same-length-2
 same-length-2 c = search needs
 
--- src/joins.rt:45:9
 returns-2 : tie.Need-returns-2
 returns-2 c = join-late (c .before .before .before .before .before .before .before .find .ensures) (c .before .before .before .find2 .ensures) (c .if2 .taken)
 
--- src/joins.rt:47:5
 unite-requires : tie.Need-unite-requires
 unite-requires c κs = join-unite (c .before .before .before .before .before .before .before .before .before .before .before .before .before .before .before .before .pre .2) (c .before .before .before .before .before .before .before .before .find .ensures) (c .before .before .before .before .find2 .ensures) (c .before .if2 .left)
 
--- src/joins.rt:48:5
 add-result : tie.Need-add-result
 add-result c = search needs
 
--- src/joins.rt:35:1
 same-length-3 : tie.Need-same-length-3
 same-length-3 c = search needs
 
--- src/joins.rt:35:1
 returns-3 : tie.Need-returns-3
 returns-3 c = join-done ((c .before .before .before .before .before .before .before .before .before .before .before .before .before .before .before .before .before .before .before .pre)) (c .before .before .before .before .before .before .before .before .before .before .before .find .ensures) (c .before .before .before .before .before .before .before .find2 .ensures) (c .before .before .before .before .if2 .left) (c .before .before .unite .ensures)
 

@@ -1,6 +1,5 @@
 -- `unions::joins::unite` meets its contract. Assumes nothing.
-use native.Mathlib.Omega.{arith}
-use mathlib.Core.Path.{_≡_, refl, _∙_, ap, sym}
+use mathlib.Core.Path.{refl, _∙_}
 use borrow.Author.Needs.{needs}
 use Rattle.unions.proofs.joins.unite.Statement.{statement}
 use Rattle.unions.proofs.joins.unite.Tie as tie
@@ -10,39 +9,30 @@ use Rattle.columns.proofs.put.Reads as put-reads
 use Rattle.unions.proofs.joins.greater.Reads as greater-reads
 use Rattle.unions.proofs.joins.lesser.Reads as lesser-reads
 
--- src/joins.rt:27:9
 lesser-requires : tie.Need-lesser-requires
 lesser-requires c κs = search needs
 
--- src/joins.rt:28:9
 greater-requires : tie.Need-greater-requires
 greater-requires c κs = search needs
 
--- src/joins.rt:29:5
 put-requires : tie.Need-put-requires
 put-requires c κs = search needs
 
--- src/joins.rt:30:25
 mul-put : tie.Need-mul-put
 mul-put c = search needs
 
--- src/joins.rt:30:25
 add-put : tie.Need-add-put
 add-put c = search needs
 
--- src/joins.rt:30:5
 put-requires-2 : tie.Need-put-requires-2
 put-requires-2 c κs = search needs
 
--- src/joins.rt:31:5
 put-requires-3 : tie.Need-put-requires-3
 put-requires-3 c κs = search needs
 
--- src/joins.rt:23:1
 same-length : tie.Need-same-length
 same-length c = search needs
 
--- src/joins.rt:23:1
 returns : tie.Need-returns
 returns c = c .before .before .put3 .ensures ∙ (rw (c .before .before .before .before .before .before .put2 .ensures, c .before .before .before .before .before .before .before .before .before .before .put .ensures, c .before .before .before .before .before .before .before .before .before .before .before .before .before .lesser .ensures, c .before .before .before .before .before .before .before .before .before .before .before .before .greater .ensures) refl)
 

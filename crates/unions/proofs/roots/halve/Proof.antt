@@ -1,6 +1,5 @@
 -- `unions::roots::halve` meets its contract. Assumes nothing.
 use native.Mathlib.Omega.{arith}
-use mathlib.Core.Path.{_≡_, refl, _∙_, ap, sym}
 use Rattle.unions.specs.Find.{halve-near, halve-done}
 use borrow.Author.Needs.{needs}
 use Rattle.unions.proofs.roots.halve.Statement.{statement}
@@ -10,19 +9,15 @@ use Rattle.unions.proofs.roots.halve.Lts as lts
 use Rattle.columns.proofs.get.Reads as get-reads
 use Rattle.columns.proofs.put.Reads as put-reads
 
--- src/roots.rt:14:9
 get-requires : tie.Need-get-requires
 get-requires c κs = (omega arith, (halve-near ((c .before .before .pre)), c .before .before .pre .find .size))
 
--- src/roots.rt:15:5
 put-requires : tie.Need-put-requires
 put-requires c κs = search needs
 
--- src/roots.rt:10:1
 same-length : tie.Need-same-length
 same-length c = search needs
 
--- src/roots.rt:10:1
 returns : tie.Need-returns
 returns c = halve-done ((c .before .before .before .before .before .before .before .pre)) (c .before .before .before .before .get .ensures .0) (c .before .before .put .ensures)
 
