@@ -39,14 +39,14 @@ static struct turn turn, other;
 /* ---- what is new ---- */
 
 static int is_new_reply(const struct met *met) {
-    static uint8_t seen[1 << 16];
+    static uint8_t seen[CALLS * 13 * 131 * 32];
     uint32_t value = met->reply.value, size = 0, large = 0;
     for (uint32_t v = value; v; v >>= 1) size++;
     for (size_t v = met->length; v; v >>= 1) large++;
     if (met->reply.refusal == 0 && value < 64) size = 64 + value;
-    uint32_t key = ((met->call * 13u + met->reply.refusal) * 131u + size) * 17u + large;
-    int new = !seen[key & 0xFFFF];
-    seen[key & 0xFFFF] = 1;
+    uint32_t key = ((met->call * 13u + met->reply.refusal) * 131u + size) * 32u + large;
+    int new = !seen[key];
+    seen[key] = 1;
     return new;
 }
 
