@@ -1,4 +1,4 @@
--- Columns at zero: what `wipe_from`, `wipe` and `wipe_all` do. Assumes nothing.
+-- Columns at zero: what `wipe_range`, `wipe` and `wipe_all` do. Assumes nothing.
 use mathlib.Core.Path.{_≡_, refl, sym, _∙_}
 use mathlib.Core.Logic.{_⊎_, inl, inr, _≢_}
 use mathlib.Core.List.{List}
@@ -15,16 +15,18 @@ pub record Wiped (m c from e : ℕ) (w w′ : List ℕ) : Type 0 where
   pub length-is : length w′ ≡ length w
   pub zero : (y : ℕ) → from ≤ y → y < e → cell w′ m c y ≡ 0
   pub before : (y : ℕ) → y < from → cell w′ m c y ≡ cell w m c y
+  pub after : (y : ℕ) → e ≤ y → cell w′ m c y ≡ cell w m c y
   pub others : (d y : ℕ) → d ≢ c → y < m → cell w′ m d y ≡ cell w m d y
 
 pub wiped-none : (m c from : ℕ) (w : List ℕ) → Wiped m c from from w w
-wiped-none m c from w = record { length-is = refl; zero = λ y l k. absurd (omega arith); before = λ y l. refl; others = λ d y n l. refl }
+wiped-none m c from w = record { length-is = refl; zero = λ y l k. absurd (omega arith); before = λ y l. refl; after = λ y l. refl; others = λ d y n l. refl }
 
 pub wiped-more : {m c from e : ℕ} {w₀ w w′ : List ℕ} → Wiped m c from e w₀ w → c < COLUMNS → from ≤ e → e < m → length w₀ ≡ COLUMNS * m → w′ ≡ store w m c e 0 → Wiped m c from (e + 1) w₀ w′
 wiped-more {m} {c} {from} {e} {w₀} {w} {w′} W cl fl el size put = rw put (record {
   length-is = length-store w m c e 0 ∙ W .length-is;
   zero = λ y l k. go y l k (same-or-not y e);
   before = λ y l. kept-entry w m c e y 0 (omega arith) ∙ W .before y l;
+  after = λ y l. kept-entry w m c e y 0 (omega arith) ∙ W .after y (omega arith);
   others = λ d y n l. kept-column w m c d e y 0 (λ q. n (sym q)) el l ∙ W .others d y n l;
 })
   where
@@ -32,7 +34,7 @@ wiped-more {m} {c} {from} {e} {w₀} {w} {w′} W cl fl el size put = rw put (re
     go y l k (inl q) = rw q (stored w m c e 0 cl el (W .length-is ∙ size))
     go y l k (inr q) = kept-entry w m c e y 0 q ∙ W .zero y l (omega (arith, k, q))
 
-pub wiped-all : {m c from e : ℕ} {w w′ : List ℕ} → e ≡ m → Wiped m c from e w w′ → Wiped m c from m w w′
+pub wiped-all : {m c from e until : ℕ} {w w′ : List ℕ} → e ≡ until → Wiped m c from e w w′ → Wiped m c from until w w′
 wiped-all q h = rw q at h
 
 -- ---- the first e entries of column c at 0, all other columns as they were
@@ -42,22 +44,8 @@ pub record Wiping (m c e : ℕ) (w w′ : List ℕ) : Type 0 where
   pub zero : (y : ℕ) → y < e → cell w′ m c y ≡ 0
   pub others : (d y : ℕ) → d ≢ c → y < m → cell w′ m d y ≡ cell w m d y
 
-pub wiping-none : (m c : ℕ) (w : List ℕ) → Wiping m c 0 w w
-wiping-none m c w = record { length-is = refl; zero = λ y l. absurd (omega arith); others = λ d y n l. refl }
-
-pub wiping-more : {m c e : ℕ} {w₀ w w′ : List ℕ} → Wiping m c e w₀ w → c < COLUMNS → e < m → length w₀ ≡ COLUMNS * m → w′ ≡ store w m c e 0 → Wiping m c (e + 1) w₀ w′
-wiping-more {m} {c} {e} {w₀} {w} {w′} W cl el size put = rw put (record {
-  length-is = length-store w m c e 0 ∙ W .length-is;
-  zero = λ y l. go y l (same-or-not y e);
-  others = λ d y n l. kept-column w m c d e y 0 (λ q. n (sym q)) el l ∙ W .others d y n l;
-})
-  where
-    go : (y : ℕ) → y < e + 1 → (y ≡ e) ⊎ (y ≢ e) → cell (store w m c e 0) m c y ≡ 0
-    go y l (inl q) = rw q (stored w m c e 0 cl el (W .length-is ∙ size))
-    go y l (inr q) = kept-entry w m c e y 0 q ∙ W .zero y (omega arith)
-
-pub wiping-whole : {m c : ℕ} {w w′ : List ℕ} → Wiped m c 0 m w w′ → Wiping m c m w w′
-wiping-whole W = record { length-is = W .length-is; zero = λ y l. W .zero y (omega arith) l; others = W .others }
+pub wiping-first : {m c e : ℕ} {w w′ : List ℕ} → Wiped m c 0 e w w′ → Wiping m c e w w′
+wiping-first W = record { length-is = W .length-is; zero = λ y l. W .zero y (omega arith) l; others = W .others }
 
 -- ---- columns from `from` up to c at 0
 

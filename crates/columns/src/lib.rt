@@ -1,7 +1,7 @@
 // The work space: sixteen columns of m numbers in one lent slice. Entry i of column c stands at c * m + i.
 ghost use Prim.Native.Nat.{_+_, _*_, _<_, _≤_};
 ghost use mathlib.Core.Path.{_≡_};
-ghost use lib.ListN.{length};
+ghost use lib.ListN.{length, getD};
 ghost use Rattle.columns.specs.Columns.{cell, store, entry, storeEntry, COLUMNS, mostLinks, entryBound};
 ghost use Rattle.columns.specs.Wiping.{Wiped, Wiping, Cleaned};
 
@@ -96,16 +96,25 @@ pub fn put_near(w: &mut [u32], m: usize, i: usize, x: usize)
     w[m + i] = x as u32;
 }
 
-// The entries of column c from `from` on at 0.
-pub fn wipe_from(w: &mut [u32], m: usize, c: usize, from: usize)
+// Entry i of an account-sized row.
+pub fn of(s: &[u32], i: usize) -> usize
+    requires { ⌜ i < length (now s) ⌝ }
+    ensures { λ r. ⌜ (r ≡ getD (now (s .entry)) i 0) × (r < entryBound) ⌝ }
+{
+    s[i] as usize
+}
+
+// The entries from .. until of column c at 0.
+pub fn wipe_range(w: &mut [u32], m: usize, c: usize, from: usize, until: usize)
     requires { ⌜ length (now w) ≡ COLUMNS * m ⌝ }
     requires { ⌜ c < COLUMNS ⌝ }
-    requires { ⌜ from ≤ m ⌝ }
+    requires { ⌜ from ≤ until ⌝ }
+    requires { ⌜ until ≤ m ⌝ }
     requires { ⌜ m ≤ mostLinks ⌝ }
-    ensures { λ _. ⌜ Wiped m c from m (now (w .entry)) (now (w .exit)) ⌝ }
+    ensures { λ _. ⌜ Wiped m c from until (now (w .entry)) (now (w .exit)) ⌝ }
 {
     let mut e = from;
-    while e < m {
+    while e < until {
         put(w, m, c, e, 0);
         e += 1;
     }
@@ -118,7 +127,7 @@ pub fn wipe(w: &mut [u32], m: usize, c: usize)
     requires { ⌜ m ≤ mostLinks ⌝ }
     ensures { λ _. ⌜ Wiping m c m (now (w .entry)) (now (w .exit)) ⌝ }
 {
-    wipe_from(w, m, c, 0);
+    wipe_range(w, m, c, 0, m);
 }
 
 // The columns from .. until at 0.

@@ -17,7 +17,7 @@ use columns::ROOT_GROUP;
 use columns::STRENGTH;
 use columns::THIRD;
 use columns::wipe_all;
-use columns::wipe_from;
+use columns::wipe_range;
 use forest::level::level;
 use forest::level::prepare;
 use forest::level::top;
@@ -66,11 +66,11 @@ fn wipe_ends(w: &mut [u32], m: usize, joins: usize, groups: usize)
     requires { ⌜ m ≤ 65535 ⌝ }
     ensures { λ _. ⌜ Ends m joins groups (now (w .entry)) (now (w .exit)) ⌝ }
 {
-    wipe_from(w, m, JOIN_ENDS, joins);
-    wipe_from(w, m, JOIN_WEIGHT, joins);
-    wipe_from(w, m, GROUP_STRENGTH, groups);
-    wipe_from(w, m, GROUP_PARENT, groups);
-    wipe_from(w, m, GROUP_LEAST, groups);
+    wipe_range(w, m, JOIN_ENDS, joins, m);
+    wipe_range(w, m, JOIN_WEIGHT, joins, m);
+    wipe_range(w, m, GROUP_STRENGTH, groups, m);
+    wipe_range(w, m, GROUP_PARENT, groups, m);
+    wipe_range(w, m, GROUP_LEAST, groups, m);
 }
 
 // All that is no result at 0.

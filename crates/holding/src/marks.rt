@@ -2,34 +2,19 @@
 ghost use mathlib.Core.Path.{_≡_};
 ghost use Prim.Native.Nat.{_+_, _*_, _<_, _≤_};
 ghost use lib.ListN.{length};
-ghost use Rattle.columns.specs.Wiping.{Wiping};
 ghost use Rattle.stored.specs.Rows.{Sized};
 ghost use Rattle.holding.specs.Turns.{Clear, HoldAsks, HoldGives, LiftAll, LiftGives, LiftOne, Marked, MarkGiven, MeetAll, MeetOne, Meets, OwnMarks};
 use crate::ranks::rank_named;
 use columns::get;
 use columns::put;
+use columns::wipe_range;
 use stored::rows::NONE;
 use stored::rows::group_parent;
 use stored::rows::link_group;
 use stored::rows::link_higher;
 use stored::rows::link_lower;
 
-// No marks at the first count entries of column c.
-fn clear_column(w: &mut [u32], m: usize, c: usize, count: usize)
-    requires { ⌜ length (now w) ≡ 16 * m ⌝ }
-    requires { ⌜ c < 16 ⌝ }
-    requires { ⌜ count ≤ m ⌝ }
-    requires { ⌜ m ≤ 2048 ⌝ }
-    ensures { λ _. ⌜ Wiping m c count (now (w .entry)) (now (w .exit)) ⌝ }
-{
-    let mut g: usize = 0;
-    while g < count {
-        put(w, m, c, g, 0);
-        g += 1;
-    }
-}
-
-// None in the first d columns.
+// No marks at the first count entries of the first d columns.
 fn clear(w: &mut [u32], m: usize, d: usize, count: usize)
     requires { ⌜ length (now w) ≡ 16 * m ⌝ }
     requires { ⌜ d ≤ 16 ⌝ }
@@ -39,7 +24,7 @@ fn clear(w: &mut [u32], m: usize, d: usize, count: usize)
 {
     let mut c: usize = 0;
     while c < d {
-        clear_column(w, m, c, count);
+        wipe_range(w, m, c, 0, count);
         c += 1;
     }
 }

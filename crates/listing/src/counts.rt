@@ -30,6 +30,9 @@ pub const ACCOUNTS: usize = 4;
 
 pub const LINKS: usize = 5;
 
+// The column after these.
+const END: usize = 6;
+
 // The keys of the links in column 0, as the lists of links by account ask for them.
 fn load_keys(s: &[u8], w: &mut [u32], m: usize)
     requires { ⌜ IsIndex (now s) ⌝ }
@@ -186,7 +189,7 @@ fn count_with(
 {
     load_keys(s, w, m);
     lists(w, m, n, start, next);
-    wipe_all(w, m, LAST, LINKS + 1);
+    wipe_all(w, m, LAST, END);
     count_links(s, at, w, m, count);
     wipe(w, m, LAST);
     count_accounts(s, at, w, m, n, count, start);

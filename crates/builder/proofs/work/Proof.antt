@@ -1,59 +1,43 @@
+-- `builder::work` meets its contract. Assumes nothing.
 use mathlib.Core.Path.{sym}
 use lib.Seq.{length-take-le}
 use borrow.Author.Needs.{needs}
 use Rattle.builder.proofs.work.Statement.{statement}
 use Rattle.builder.proofs.work.Tie as tie
-use Rattle.builder.proofs.work.Reads as reads
-use Rattle.builder.proofs.work.Lts as lts
-use Rattle.builder.proofs.print_refusal.Reads as print-refusal-reads
-use Rattle.index.proofs.build.Reads as build-reads
-use Rattle.io.proofs.write_all.Reads as write-all-reads
 
--- src/main.rt:16:9
 build-requires : tie.Need-build-requires
 build-requires c κs = search needs
 
--- src/main.rt:18:9
 print-refusal-requires : tie.Need-print-refusal-requires
 print-refusal-requires c κs = search needs
 
--- src/main.rt:19:9
 same-length : tie.Need-same-length
 same-length c = search needs
 
--- src/main.rt:19:9
 returns : tie.Need-returns
 returns c = search needs
 
--- src/main.rt:21:15
 cast-len : tie.Need-cast-len
 cast-len c = search needs
 
--- src/main.rt:23:38
 slice-reshare-prefix-write-all : tie.Need-slice-reshare-prefix-write-all
 slice-reshare-prefix-write-all c = search needs
 
--- src/main.rt:23:38
 slice-aggregate-write-all : tie.Need-slice-aggregate-write-all
 slice-aggregate-write-all c = sym (length-take-le _ _ (search needs))
 
--- src/main.rt:23:9
 write-all-requires : tie.Need-write-all-requires
 write-all-requires c κs = search needs
 
--- src/main.rt:15:1
 same-length-2 : tie.Need-same-length-2
 same-length-2 c = search needs
 
--- src/main.rt:15:1
 returns-2 : tie.Need-returns-2
 returns-2 c = search needs
 
--- src/main.rt:15:1
 same-length-3 : tie.Need-same-length-3
 same-length-3 c = search needs
 
--- src/main.rt:15:1
 returns-3 : tie.Need-returns-3
 returns-3 c = search needs
 

@@ -1,20 +1,17 @@
 -- `columns::wipe` meets its contract. Assumes nothing.
-use Rattle.columns.specs.Wiping.{wiping-whole}
+use Rattle.columns.specs.Wiping.{wiping-first}
 use borrow.Author.Needs.{needs}
 use Rattle.columns.proofs.wipe.Statement.{statement}
 use Rattle.columns.proofs.wipe.Tie as tie
-use Rattle.columns.proofs.wipe.Reads as reads
-use Rattle.columns.proofs.wipe.Lts as lts
-use Rattle.columns.proofs.wipe_from.Reads as wipe-from-reads
 
-wipe-from-requires : tie.Need-wipe-from-requires
-wipe-from-requires c κs = search needs
+wipe-range-requires : tie.Need-wipe-range-requires
+wipe-range-requires c κs = search needs
 
 same-length : tie.Need-same-length
 same-length c = search needs
 
 returns : tie.Need-returns
-returns c = wiping-whole (c .before .before .wipe-from .ensures)
+returns c = wiping-first (c .before .before .wipe-range .ensures)
 
 pub wipe-spec : {M : Type 1} → statement M
-wipe-spec = tie.close (tie.spec wipe-from-requires same-length returns)
+wipe-spec = tie.close (tie.spec wipe-range-requires same-length returns)

@@ -1,3 +1,4 @@
+-- `index::build` meets its contract. Assumes nothing.
 use Rattle.index.specs.Build.{head-refused, few-of}
 use Rattle.linksfile.specs.Answers.{headOf}
 use lib.Seq.{length-take-le}
@@ -6,65 +7,47 @@ use mathlib.Core.Path.{sym, ap, _∙_}
 use borrow.Author.Needs.{needs}
 use Rattle.index.proofs.build.Statement.{statement}
 use Rattle.index.proofs.build.Tie as tie
-use Rattle.index.proofs.build.Reads as reads
-use Rattle.index.proofs.build.Lts as lts
-use Rattle.index.proofs.answered.Reads as answered-reads
-use Rattle.index.proofs.build_in.Reads as build-in-reads
-use Rattle.index.proofs.room.Reads as room-reads
-use Rattle.linksfile.proofs.read_head.Reads as read-head-reads
 
--- src/lib.rt:85:11
 read-head-requires : tie.Need-read-head-requires
 read-head-requires c κs = search needs
 
--- src/lib.rt:86:27
 enum-known-number : tie.Need-enum-known-number
 enum-known-number c = search needs
 
--- src/lib.rt:86:38
 answered-requires : tie.Need-answered-requires
 answered-requires c κs = search needs
 
--- src/lib.rt:87:26
 enum-known-n : tie.Need-enum-known-n
 enum-known-n c = search needs
 
--- src/lib.rt:88:28
 room-requires : tie.Need-room-requires
 room-requires c κs = search needs
 
--- src/lib.rt:89:24
 mul-size : tie.Need-mul-size
 unfolding headOf
 mul-size c = omega (arith, few-of _ _ _ (sym (c .before .before .before .before .read-head .ensures) ∙ ap headOf (c .before .before .n .given .1)))
 
--- src/lib.rt:90:34
 array-borrow-prefix-work : tie.Need-array-borrow-prefix-work
 unfolding headOf
 array-borrow-prefix-work c = omega (arith, few-of _ _ _ (sym (c .before .before .before .before .before .read-head .ensures) ∙ ap headOf (c .before .before .before .n .given .1)))
 
--- src/lib.rt:90:34
 slice-aggregate-build-in : tie.Need-slice-aggregate-build-in
 unfolding headOf
 slice-aggregate-build-in c = sym (length-take-le _ _ (omega (arith, few-of _ _ _ (sym (c .before .before .before .before .before .before .read-head .ensures) ∙ ap headOf (c .before .before .before .before .n .given .1)))))
 
--- src/lib.rt:90:13
 build-in-requires : tie.Need-build-in-requires
 unfolding headOf
 build-in-requires c κs =
     let h = sym (c .before .before .before .before .before .before .read-head .ensures) ∙ ap headOf (c .before .before .before .before .n .given .1) in
     record { head = h; size = length-take-le _ _ (omega (arith, few-of _ _ _ h)) }
 
--- src/lib.rt:82:1
 returns : tie.Need-returns
 unfolding headOf
 returns c = head-refused (c .before .before .before .before .before .before .before .args .links .now) (c .before .before .before .before .before .before .before .args .out .now) (sym (ap headOf (c .before .before .number .given .1)) ∙ c .before .before .before .before .read-head .ensures) (c .answered .ensures)
 
--- src/lib.rt:82:1
 same-length : tie.Need-same-length
 same-length c = search needs
 
--- src/lib.rt:82:1
 returns-2 : tie.Need-returns-2
 returns-2 c = search needs
 

@@ -1,45 +1,33 @@
+-- `index::build_in` meets its contract. Assumes nothing.
 use Rattle.index.specs.Build.{records-refused, records-good, build-finished, solve-asks}
 use borrow.Author.Needs.{needs}
 use Rattle.index.proofs.build_in.Statement.{statement}
 use Rattle.index.proofs.build_in.Tie as tie
-use Rattle.index.proofs.build_in.Reads as reads
-use Rattle.index.proofs.build_in.Lts as lts
-use Rattle.index.proofs.answered.Reads as answered-reads
-use Rattle.index.proofs.finish.Reads as finish-reads
-use Rattle.linksfile.proofs.load.Reads as load-reads
 
--- src/lib.rt:68:9
 load-requires : tie.Need-load-requires
 load-requires c κs = search needs
 
--- src/lib.rt:70:9
 answered-requires : tie.Need-answered-requires
 answered-requires c κs = search needs
 
--- src/lib.rt:70:9
 same-length : tie.Need-same-length
 same-length c = search needs
 
--- src/lib.rt:70:9
 returns : tie.Need-returns
 returns c = records-refused (c .before .before .before .before .before .before .before .before .before .before .args .links .now) (c .before .before .before .before .before .before .before .before .before .before .args .out .now) (c .before .before .before .before .before .before .before .before .before .before .args .n) (c .before .before .before .before .before .before .before .before .before .before .args .m) (c .before .before .before .before .before .before .before .before .before .before .pre .head) (c .before .if1 .taken) (c .before .before .before .before .before .load .ensures .outcome) (c .answered .ensures)
 
--- src/lib.rt:72:5
 finish-requires : tie.Need-finish-requires
 finish-requires c κs =
     let b = c .before .before .before .before .before .before .before .before .before .before .before .args .links .now in
     let g = records-good b (c .before .before .before .before .before .before .before .before .before .before .before .args .out .now) (c .before .before .before .before .before .before .before .before .before .before .before .args .n) (c .before .before .before .before .before .before .before .before .before .before .before .args .m) (c .before .before .before .before .before .before .before .before .before .before .before .pre .head) _ _ (c .before .before .if1 .left) (c .before .before .before .before .before .before .load .ensures .outcome) in
     (g .0, solve-asks b (c .before .before .before .before .before .before .before .before .before .before .before .args .out .now) (c .before .before .before .before .before .before .before .before .before .before .before .args .n) (c .before .before .before .before .before .before .before .before .before .before .before .args .m) (c .before .before .before .before .before .before .before .before .before .before .before .pre .head) (g .1) (c .before .before .before .before .before .before .load .ensures .named (g .0) (g .1)))
 
--- src/lib.rt:64:1
 same-length-2 : tie.Need-same-length-2
 same-length-2 c = search needs
 
--- src/lib.rt:64:1
 same-length-3 : tie.Need-same-length-3
 same-length-3 c = search needs
 
--- src/lib.rt:64:1
 returns-2 : tie.Need-returns-2
 returns-2 c =
     let b = c .before .before .before .before .before .before .before .before .before .before .before .before .before .before .before .before .args .links .now in

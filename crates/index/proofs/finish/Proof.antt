@@ -1,56 +1,40 @@
+-- `index::finish` meets its contract. Assumes nothing.
 use Rattle.index.specs.Build.{no-room, wrote}
 use native.Mathlib.Omega.{arith}
 use borrow.Author.Needs.{needs}
 use Rattle.index.proofs.finish.Statement.{statement}
 use Rattle.index.proofs.finish.Tie as tie
-use Rattle.index.proofs.finish.Reads as reads
-use Rattle.index.proofs.finish.Lts as lts
-use Rattle.index.proofs.answered.Reads as answered-reads
-use Rattle.index.proofs.solve.Reads as solve-reads
-use Rattle.indexfile.proofs.index_length.Reads as index-length-reads
-use Rattle.indexfile.proofs.write_index.Reads as write-index-reads
 
--- src/lib.rt:52:9
 solve-requires : tie.Need-solve-requires
 solve-requires c κs = search needs
 
--- src/lib.rt:55:9
 index-length-requires : tie.Need-index-length-requires
 index-length-requires c κs = let W = c .before .before .solve .ensures _ (c .before .before .before .before .before .before .pre .1) .writes in (W .few, (omega (arith, W .few, W .few-joins), omega (arith, W .few, W .few-groups)))
 
--- src/lib.rt:57:9
 answered-requires : tie.Need-answered-requires
 answered-requires c κs = search needs
 
--- src/lib.rt:57:9
 same-length : tie.Need-same-length
 same-length c = search needs
 
--- src/lib.rt:57:9
 returns : tie.Need-returns
 returns c = λ ps P. no-room (c .before .before .before .before .before .before .before .before .before .args .out .now) (c .before .before .before .before .before .solve .ensures ps P) (c .before .before .index-length .ensures) (c .before .if1 .taken) (c .answered .ensures)
 
--- src/lib.rt:59:5
 write-index-requires : tie.Need-write-index-requires
 write-index-requires c κs = let W = c .before .before .before .before .before .before .solve .ensures _ (c .before .before .before .before .before .before .before .before .before .before .pre .1) .writes in (W, omega (arith, c .before .before .if1 .left, c .before .before .before .index-length .ensures))
 
--- src/lib.rt:60:17
 cast-answered : tie.Need-cast-answered
 cast-answered c = let W = c .before .before .before .before .before .before .before .before .before .solve .ensures _ (c .before .before .before .before .before .before .before .before .before .before .before .before .before .pre .1) .writes in omega (arith, W .few, W .few-joins, W .few-groups, c .before .before .before .before .before .before .index-length .ensures)
 
--- src/lib.rt:60:5
 answered-requires-2 : tie.Need-answered-requires-2
 answered-requires-2 c κs = search needs
 
--- src/lib.rt:48:1
 same-length-2 : tie.Need-same-length-2
 same-length-2 c = search needs
 
--- src/lib.rt:48:1
 same-length-3 : tie.Need-same-length-3
 same-length-3 c = search needs
 
--- src/lib.rt:48:1
 returns-2 : tie.Need-returns-2
 returns-2 c = λ ps P. wrote (c .before .before .before .before .before .before .before .before .before .before .before .before .before .before .args .out .now) (c .before .before .before .before .before .before .before .before .before .before .solve .ensures ps P) (c .before .before .before .before .before .before .before .index-length .ensures) (c .before .before .before .before .before .before .if1 .left) (c .before .before .before .write-index .ensures) (c .answered2 .ensures)
 

@@ -1,3 +1,4 @@
+-- `index::next_key` meets its contract. Assumes nothing.
 use mathlib.Core.Path.{sym, _∙_}
 use native.Mathlib.Omega.{arith}
 use Rattle.index.specs.Read.{whole-strong, next-not, next-turned, next-above, next-before, next-found}
@@ -5,56 +6,40 @@ use Rattle.wire.specs.Writing.{turned-true, turned-false}
 use borrow.Author.Needs.{needs}
 use Rattle.index.proofs.next_key.Statement.{statement}
 use Rattle.index.proofs.next_key.Tie as tie
-use Rattle.index.proofs.next_key.Reads as reads
-use Rattle.index.proofs.next_key.Lts as lts
-use Rattle.wire.proofs.field_at.Reads as field-at-reads
-use Rattle.wire.proofs.whole_record.Reads as whole-record-reads
 
--- src/lib.rt:115:9
 whole-record-requires : tie.Need-whole-record-requires
 whole-record-requires c κs = search needs
 
--- src/lib.rt:116:9
 returns : tie.Need-returns
 returns c = next-not (c .before .before .before .args .s .now) (c .before .before .before .args .n) (c .before .before .before .args .at) (c .before .before .before .args .last) (sym (c .before .whole-record .ensures) ∙ turned-true (c .before .whole-record .result) (c .if1 .taken))
 
--- src/lib.rt:118:25
 add-field-at : tie.Need-add-field-at
 add-field-at c = search needs
 
--- src/lib.rt:118:9
 field-at-requires : tie.Need-field-at-requires
 field-at-requires c κs = omega (arith, whole-strong (c .before .before .before .args .s .now) (c .before .before .before .args .at) (sym (c .before .whole-record .ensures) ∙ turned-false (c .before .whole-record .result) (c .if1 .left)))
 
--- src/lib.rt:119:25
 add-field-at-2 : tie.Need-add-field-at-2
 add-field-at-2 c = search needs
 
--- src/lib.rt:119:9
 field-at-requires-2 : tie.Need-field-at-requires-2
 field-at-requires-2 c κs = omega (arith, whole-strong (c .before .before .before .before .args .s .now) (c .before .before .before .before .args .at) (sym (c .before .before .whole-record .ensures) ∙ turned-false (c .before .before .whole-record .result) (c .before .if1 .left)))
 
--- src/lib.rt:121:9
 returns-2 : tie.Need-returns-2
 returns-2 c = next-turned (c .before .before .before .before .before .before .args .s .now) (c .before .before .before .before .before .before .args .n) (c .before .before .before .before .before .before .args .at) (c .before .before .before .before .before .before .args .last) (c .before .before .field-at .ensures .0) (c .before .field-at2 .ensures .0) (c .if2 .taken)
 
--- src/lib.rt:124:9
 returns-3 : tie.Need-returns-3
 returns-3 c = next-above (c .before .before .before .before .before .before .before .args .s .now) (c .before .before .before .before .before .before .before .args .n) (c .before .before .before .before .before .before .before .args .at) (c .before .before .before .before .before .before .before .args .last) (c .before .before .before .field-at .ensures .0) (c .before .before .field-at2 .ensures .0) (c .if3 .taken)
 
--- src/lib.rt:126:13
 mul-k : tie.Need-mul-k
 mul-k c = search needs
 
--- src/lib.rt:126:13
 add-k : tie.Need-add-k
 add-k c = search needs
 
--- src/lib.rt:128:9
 returns-4 : tie.Need-returns-4
 returns-4 c = next-before (c .before .before .before .before .before .before .before .before .args .s .now) (c .before .before .before .before .before .before .before .before .args .n) (c .before .before .before .before .before .before .before .before .args .at) (c .before .before .before .before .before .before .before .before .args .last) (c .before .before .before .before .field-at .ensures .0) (c .before .before .before .field-at2 .ensures .0) (c .if4 .taken)
 
--- src/lib.rt:111:1
 returns-5 : tie.Need-returns-5
 returns-5 c = next-found (c .before .before .before .before .before .before .before .before .args .s .now) (c .before .before .before .before .before .before .before .before .args .n) (c .before .before .before .before .before .before .before .before .args .at) (c .before .before .before .before .before .before .before .before .args .last) (c .before .before .before .before .field-at .ensures .0) (c .before .before .before .field-at2 .ensures .0) (sym (c .before .before .before .before .before .before .whole-record .ensures) ∙ turned-false (c .before .before .before .before .before .before .whole-record .result) (c .before .before .before .before .before .if1 .left)) (c .before .before .if2 .left) (c .before .if3 .left) (c .if4 .left)
 

@@ -1,3 +1,4 @@
+-- `index::read` meets its contract. Assumes nothing.
 use mathlib.Core.Path.{sym, ap, _∙_}
 use native.Mathlib.Omega.{arith}
 use lib.Seq.{length-take-le}
@@ -7,65 +8,47 @@ use Rattle.index.specs.Build.{few-of}
 use borrow.Author.Needs.{needs}
 use Rattle.index.proofs.read.Statement.{statement}
 use Rattle.index.proofs.read.Tie as tie
-use Rattle.index.proofs.read.Reads as reads
-use Rattle.index.proofs.read.Lts as lts
-use Rattle.index.proofs.answered.Reads as answered-reads
-use Rattle.index.proofs.read_in.Reads as read-in-reads
-use Rattle.index.proofs.room.Reads as room-reads
-use Rattle.linksfile.proofs.read_head.Reads as read-head-reads
 
--- src/lib.rt:219:11
 read-head-requires : tie.Need-read-head-requires
 read-head-requires c κs = search needs
 
--- src/lib.rt:220:27
 enum-known-number : tie.Need-enum-known-number
 enum-known-number c = search needs
 
--- src/lib.rt:220:38
 answered-requires : tie.Need-answered-requires
 answered-requires c κs = search needs
 
--- src/lib.rt:221:26
 enum-known-n : tie.Need-enum-known-n
 enum-known-n c = search needs
 
--- src/lib.rt:222:28
 room-requires : tie.Need-room-requires
 room-requires c κs = search needs
 
--- src/lib.rt:223:24
 mul-size : tie.Need-mul-size
 unfolding headOf
 mul-size c = omega (arith, few-of _ _ _ (sym (c .before .before .before .before .read-head .ensures) ∙ ap headOf (c .before .before .n .given .1)))
 
--- src/lib.rt:224:33
 array-borrow-prefix-work : tie.Need-array-borrow-prefix-work
 unfolding headOf
 array-borrow-prefix-work c = omega (arith, few-of _ _ _ (sym (c .before .before .before .before .before .read-head .ensures) ∙ ap headOf (c .before .before .before .n .given .1)))
 
--- src/lib.rt:224:33
 slice-aggregate-read-in : tie.Need-slice-aggregate-read-in
 unfolding headOf
 slice-aggregate-read-in c = sym (length-take-le _ _ (omega (arith, few-of _ _ _ (sym (c .before .before .before .before .before .before .read-head .ensures) ∙ ap headOf (c .before .before .before .before .n .given .1)))))
 
--- src/lib.rt:224:13
 read-in-requires : tie.Need-read-in-requires
 unfolding headOf
 read-in-requires c κs =
     let h = sym (c .before .before .before .before .before .before .read-head .ensures) ∙ ap headOf (c .before .before .before .before .n .given .1) in
     record { head = h; size = length-take-le _ _ (omega (arith, few-of _ _ _ h)) }
 
--- src/lib.rt:216:1
 returns : tie.Need-returns
 unfolding headOf
 returns c = read-refused (c .before .before .before .before .before .before .before .args .index .now) (c .before .before .before .before .before .before .before .args .out .now) (no-head (c .before .before .before .before .before .before .before .args .index .now) _ (sym (ap headOf (c .before .before .number .given .1)) ∙ c .before .before .before .before .read-head .ensures)) (c .answered .ensures)
 
--- src/lib.rt:216:1
 same-length : tie.Need-same-length
 same-length c = search needs
 
--- src/lib.rt:216:1
 returns-2 : tie.Need-returns-2
 returns-2 c = search needs
 

@@ -1,3 +1,4 @@
+-- `index::read_keys` meets its contract. Assumes nothing.
 use Prim.Native.Nat.{_-_}
 use mathlib.Core.Path.{_≡_, refl}
 use native.Mathlib.Omega.{arith}
@@ -6,10 +7,6 @@ use Rattle.index.specs.Read.{KeysSoFar, keys-none, keys-more, keys-not, 
 use borrow.Author.Needs.{needs}
 use Rattle.index.proofs.read_keys.Statement.{statement}
 use Rattle.index.proofs.read_keys.Tie as tie
-use Rattle.index.proofs.read_keys.Reads as reads
-use Rattle.index.proofs.read_keys.Lts as lts
-use Rattle.columns.proofs.put.Reads as put-reads
-use Rattle.index.proofs.next_key.Reads as next-key-reads
 
 abbrev Inv-loop : tie.InvT-loop
 Inv-loop s n m w₀ last₀ i₀ w last i = (length w ≡ length w₀) × KeysSoFar s n m i last w
@@ -17,51 +14,39 @@ Inv-loop s n m w₀ last₀ i₀ w last i = (length w ≡ length w₀) × KeysSo
 abbrev μ-loop : tie.MeasureT-loop
 μ-loop s n m w₀ last₀ i₀ w last i = m - i
 
--- src/lib.rt:140:5
 loop-holds : tie.Need-loop-holds Inv-loop μ-loop
 loop-holds c = (refl, keys-none (c .before .before .pre .size))
 
--- src/lib.rt:141:33
 mul-next-key : tie.Need-mul-next-key Inv-loop μ-loop
 mul-next-key c = omega (arith, c .before .before .before .before .pre .few, c .loop-test .taken)
 
--- src/lib.rt:141:29
 add-next-key : tie.Need-add-next-key Inv-loop μ-loop
 add-next-key c = omega (arith, c .before .before .before .before .pre .few, c .loop-test .taken)
 
--- src/lib.rt:141:13
 next-key-requires : tie.Need-next-key-requires Inv-loop μ-loop
 next-key-requires c κs = omega (arith, c .before .before .before .before .pre .few, c .loop-test .taken)
 
--- src/lib.rt:143:13
 same-length : tie.Need-same-length Inv-loop μ-loop
 same-length c = c .before .before .before .loop .inv .0
 
--- src/lib.rt:143:13
 returns : tie.Need-returns Inv-loop μ-loop
 returns c = keys-failed (c .before .before .before .loop .inv .1) (keys-not (c .before .before .before .loop .inv .1) (c .before .before .loop-test .taken) (next-none (c .before .next-key .ensures) (c .if1 .taken)))
 
--- src/lib.rt:145:9
 put-requires : tie.Need-put-requires Inv-loop μ-loop
 put-requires c κs = (omega arith, (c .before .before .before .loop-test .taken, (omega (arith, follows-small (c .before .before .before .before .before .before .before .pre .small) (next-is (c .before .before .next-key .ensures) (c .before .if1 .left))), c .before .before .before .before .loop .inv .1 .size)))
 
--- src/lib.rt:147:9
 add-i : tie.Need-add-i Inv-loop μ-loop
 add-i c = omega (arith, c .before .before .before .before .before .before .before .before .before .before .pre .few, c .before .before .before .before .before .before .loop-test .taken)
 
--- src/lib.rt:140:5
 loop-less : tie.Need-loop-less Inv-loop μ-loop
 loop-less c = search needs
 
--- src/lib.rt:140:5
 loop-again : tie.Need-loop-again Inv-loop μ-loop
 loop-again c = (search needs, keys-more (c .before .before .before .before .before .before .before .loop .inv .1) (c .before .before .before .before .before .before .loop-test .taken) (next-is (c .before .before .before .before .before .next-key .ensures) (c .before .before .before .before .if1 .left)) (c .before .before .put .ensures))
 
--- src/lib.rt:134:1
 same-length-2 : tie.Need-same-length-2 Inv-loop μ-loop
 same-length-2 c = c .before .loop .inv .0
 
--- src/lib.rt:134:1
 returns-2 : tie.Need-returns-2 Inv-loop μ-loop
 returns-2 c = keys-all (c .before .loop .inv .1) (c .loop-test .left)
 

@@ -1,3 +1,4 @@
+-- `index::write_back` meets its contract. Assumes nothing.
 use Prim.Native.Nat.{ℕ, _+_, _*_, _-_}
 use mathlib.Core.Path.{refl, ap, _∙_}
 use mathlib.Core.List.{List, _++_}
@@ -9,73 +10,52 @@ use Rattle.index.specs.Read.{backBytes}
 use borrow.Author.Needs.{needs}
 use Rattle.index.proofs.write_back.Statement.{statement}
 use Rattle.index.proofs.write_back.Tie as tie
-use Rattle.index.proofs.write_back.Reads as reads
-use Rattle.index.proofs.write_back.Lts as lts
-use Rattle.index.proofs.write_pairs.Reads as write-pairs-reads
-use Rattle.wire.proofs.head_record.Reads as head-record-reads
-use Rattle.wire.proofs.paste.Reads as paste-reads
 
--- src/lib.rt:191:16
 head-record-requires : tie.Need-head-record-requires
 head-record-requires c κs = search needs
 
--- src/lib.rt:192:16
 slice-aggregate-paste : tie.Need-slice-aggregate-paste
 slice-aggregate-paste c = search needs
 
--- src/lib.rt:192:5
 paste-requires : tie.Need-paste-requires
 paste-requires c κs = search needs
 
--- src/lib.rt:193:17
 sub-write-pairs : tie.Need-sub-write-pairs
 sub-write-pairs c = search needs
 
--- src/lib.rt:193:17
 part-write-pairs-start : tie.Need-part-write-pairs-start
 part-write-pairs-start c = search needs
 
--- src/lib.rt:193:17
 part-write-pairs-end : tie.Need-part-write-pairs-end
 part-write-pairs-end c = search needs
 
--- src/lib.rt:193:5
 write-pairs-requires : tie.Need-write-pairs-requires
 write-pairs-requires c κs = search needs
 
--- src/lib.rt:194:17
 mul-e : tie.Need-mul-e
 mul-e c = search needs
 
--- src/lib.rt:194:13
 add-e : tie.Need-add-e
 add-e c = search needs
 
--- src/lib.rt:195:11
 sub-paste : tie.Need-sub-paste
 sub-paste c = search needs
 
--- src/lib.rt:195:11
 part-paste-start : tie.Need-part-paste-start
 part-paste-start c = search needs
 
--- src/lib.rt:195:11
 part-paste-end : tie.Need-part-paste-end
 part-paste-end c = search needs
 
--- src/lib.rt:195:26
 slice-aggregate-paste-2 : tie.Need-slice-aggregate-paste-2
 slice-aggregate-paste-2 c = search needs
 
--- src/lib.rt:195:5
 paste-requires-2 : tie.Need-paste-requires-2
 paste-requires-2 c κs = search needs
 
--- src/lib.rt:186:1
 same-length : tie.Need-same-length
 same-length c = search needs
 
--- src/lib.rt:186:1
 returns : tie.Need-returns
 returns c =
     let s = c .before .before .before .before .before .before .before .before .before .before .before .before .before .before .before .before .before .args .s .now in

@@ -1,25 +1,18 @@
+-- `indexfile::join_in` meets its contract. Assumes nothing.
 use mathlib.Core.Path.{refl, _∙_}
 use borrow.Author.Needs.{needs}
 use Rattle.indexfile.proofs.join_in.Statement.{statement}
 use Rattle.indexfile.proofs.join_in.Tie as tie
-use Rattle.indexfile.proofs.join_in.Reads as reads
-use Rattle.indexfile.proofs.join_in.Lts as lts
-use Rattle.columns.proofs.get.Reads as get-reads
-use Rattle.wire.proofs.join_record.Reads as join-record-reads
 
--- src/lib.rt:84:9
 get-requires : tie.Need-get-requires
 get-requires c κs = search needs
 
--- src/lib.rt:85:9
 get-requires-2 : tie.Need-get-requires-2
 get-requires-2 c κs = search needs
 
--- src/lib.rt:86:5
 join-record-requires : tie.Need-join-record-requires
 join-record-requires c κs = search needs
 
--- src/lib.rt:78:1
 returns : tie.Need-returns
 returns c = c .join-record .ensures ∙ rw (c .before .before .get .ensures .0, c .before .get2 .ensures .0) refl
 

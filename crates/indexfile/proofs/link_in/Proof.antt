@@ -1,29 +1,21 @@
+-- `indexfile::link_in` meets its contract. Assumes nothing.
 use mathlib.Core.Path.{refl, _∙_}
 use borrow.Author.Needs.{needs}
 use Rattle.indexfile.proofs.link_in.Statement.{statement}
 use Rattle.indexfile.proofs.link_in.Tie as tie
-use Rattle.indexfile.proofs.link_in.Reads as reads
-use Rattle.indexfile.proofs.link_in.Lts as lts
-use Rattle.columns.proofs.get.Reads as get-reads
-use Rattle.wire.proofs.link_record.Reads as link-record-reads
 
--- src/lib.rt:36:9
 get-requires : tie.Need-get-requires
 get-requires c κs = search needs
 
--- src/lib.rt:37:9
 get-requires-2 : tie.Need-get-requires-2
 get-requires-2 c κs = search needs
 
--- src/lib.rt:38:9
 get-requires-3 : tie.Need-get-requires-3
 get-requires-3 c κs = search needs
 
--- src/lib.rt:39:5
 link-record-requires : tie.Need-link-record-requires
 link-record-requires c κs = search needs
 
--- src/lib.rt:30:1
 returns : tie.Need-returns
 returns c = c .link-record .ensures ∙ rw (c .before .before .before .get .ensures .0, c .before .before .get2 .ensures .0, c .before .get3 .ensures .0) refl
 

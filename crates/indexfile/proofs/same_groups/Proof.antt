@@ -1,3 +1,4 @@
+-- `indexfile::same_groups` meets its contract. Assumes nothing.
 use Rattle.indexfile.specs.Comparing.{Matching, matching-none, matching-more, matching-not, matching-all}
 use Rattle.indexfile.specs.Rows.{groupRecord}
 use Rattle.wire.specs.Writing.{tells-yes, tells-no, turned-true, turned-false}
@@ -7,10 +8,6 @@ use Prim.Native.Nat.{_-_, _≤_}
 use borrow.Author.Needs.{needs}
 use Rattle.indexfile.proofs.same_groups.Statement.{statement}
 use Rattle.indexfile.proofs.same_groups.Tie as tie
-use Rattle.indexfile.proofs.same_groups.Reads as reads
-use Rattle.indexfile.proofs.same_groups.Lts as lts
-use Rattle.indexfile.proofs.group_in.Reads as group-in-reads
-use Rattle.wire.proofs.stands.Reads as stands-reads
 
 abbrev Inv-loop : tie.InvT-loop
 Inv-loop s w m groups i₀ at₀ i at = (i ≤ groups) × Matching (groupRecord w m) 6 (λ j. refl) s i at
@@ -18,55 +15,42 @@ Inv-loop s w m groups i₀ at₀ i at = (i ≤ groups) × Matching (groupRecord 
 abbrev μ-loop : tie.MeasureT-loop
 μ-loop s w m groups i₀ at₀ i at = groups - i
 
--- src/lib.rt:161:5
 loop-holds : tie.Need-loop-holds Inv-loop μ-loop
 loop-holds c = (search needs, matching-none _ 6 (λ j. refl) _)
 
--- src/lib.rt:162:19
 group-in-requires : tie.Need-group-in-requires Inv-loop μ-loop
 group-in-requires c κs = let P = c .before .before .before .before .pre .0 in (P .size, (omega (arith, P .part), P .small _ (c .loop-test .taken)))
 
--- src/lib.rt:163:20
 sub-stands : tie.Need-sub-stands Inv-loop μ-loop
 sub-stands c = search needs
 
--- src/lib.rt:163:20
 part-stands-start : tie.Need-part-stands-start Inv-loop μ-loop
 part-stands-start c = search needs
 
--- src/lib.rt:163:20
 part-stands-end : tie.Need-part-stands-end Inv-loop μ-loop
 part-stands-end c = search needs
 
--- src/lib.rt:163:30
 slice-aggregate-stands : tie.Need-slice-aggregate-stands Inv-loop μ-loop
 slice-aggregate-stands c = search needs
 
--- src/lib.rt:163:13
 stands-requires : tie.Need-stands-requires Inv-loop μ-loop
 stands-requires c κs = search needs
 
--- src/lib.rt:164:13
 returns : tie.Need-returns Inv-loop μ-loop
 returns c = tells-no (matching-not _ 6 (λ j. refl) (c .before .before .before .before .before .before .before .before .before .args .groups) (c .before .before .before .before .before .before .loop .inv .1) (c .before .before .before .before .before .loop-test .taken) (omega (arith, c .before .before .before .before .before .before .loop .inv .1 .place, c .before .before .before .before .before .before .before .before .before .pre .1)) (λ q. c .before .stands .ensures .no-is (turned-true (c .before .stands .result) (c .if1 .taken)) (rw (c .before .before .before .before .group-in .ensures) q)))
 
--- src/lib.rt:166:9
 add-at : tie.Need-add-at Inv-loop μ-loop
 add-at c = search needs
 
--- src/lib.rt:167:9
 add-i : tie.Need-add-i Inv-loop μ-loop
 add-i c = search needs
 
--- src/lib.rt:161:5
 loop-less : tie.Need-loop-less Inv-loop μ-loop
 loop-less c = search needs
 
--- src/lib.rt:161:5
 loop-again : tie.Need-loop-again Inv-loop μ-loop
 loop-again c = (search needs, matching-more _ 6 (λ j. refl) (c .before .before .before .before .before .before .loop .inv .1) (omega (arith, c .before .before .before .before .before .before .loop .inv .1 .place, c .before .before .before .before .before .before .before .before .before .pre .1)) (rw (c .before .before .before .before .group-in .ensures) at (c .before .stands .ensures .yes-is (turned-false (c .before .stands .result) (c .if1 .left)))))
 
--- src/lib.rt:154:1
 returns-2 : tie.Need-returns-2 Inv-loop μ-loop
 returns-2 c = tells-yes (matching-all _ 6 (λ j. refl) (c .before .before .before .before .args .groups) (c .before .loop .inv .1) (c .before .loop .inv .0) (c .loop-test .left))
 

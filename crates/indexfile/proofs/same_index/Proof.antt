@@ -1,3 +1,4 @@
+-- `indexfile::same_index` meets its contract. Assumes nothing.
 use Rattle.indexfile.specs.Same.{not-length, not-head, not-links, not-joins, not-groups, not-end, is-index}
 use Rattle.indexfile.specs.Rows.{link-part, join-part, group-part}
 use Rattle.wire.specs.Writing.{tells-no, turned-true, turned-false, tells-both}
@@ -8,144 +9,103 @@ use Prim.Native.Nat.{_-_}
 use borrow.Author.Needs.{needs}
 use Rattle.indexfile.proofs.same_index.Statement.{statement}
 use Rattle.indexfile.proofs.same_index.Tie as tie
-use Rattle.indexfile.proofs.same_index.Reads as reads
-use Rattle.indexfile.proofs.same_index.Lts as lts
-use Rattle.indexfile.proofs.index_length.Reads as index-length-reads
-use Rattle.indexfile.proofs.same_groups.Reads as same-groups-reads
-use Rattle.indexfile.proofs.same_joins.Reads as same-joins-reads
-use Rattle.indexfile.proofs.same_links.Reads as same-links-reads
-use Rattle.wire.proofs.head_record.Reads as head-record-reads
-use Rattle.wire.proofs.stands.Reads as stands-reads
 
--- src/lib.rt:194:19
 index-length-requires : tie.Need-index-length-requires
 index-length-requires c κs = let P = (c .before .before .pre) in (P .few, (omega (arith, P .few, P .few-joins), omega (arith, P .few, P .few-groups)))
 
--- src/lib.rt:195:9
 returns : tie.Need-returns
 returns c = tells-no (not-length (c .before .before .before .before .args .w .now) (c .before .before .before .before .args .n) (c .before .before .before .before .args .m) (c .before .before .before .before .args .joins) (c .before .before .before .before .args .groups) (c .before .before .before .before .args .s .now) _ (c .before .index-length .ensures) (c .if1 .taken))
 
--- src/lib.rt:197:16
 head-record-requires : tie.Need-head-record-requires
 head-record-requires c κs = search needs
 
--- src/lib.rt:198:19
 slice-aggregate-stands : tie.Need-slice-aggregate-stands
 slice-aggregate-stands c = search needs
 
--- src/lib.rt:198:9
 stands-requires : tie.Need-stands-requires
 stands-requires c κs = omega (arith, c .before .before .before .index-length .ensures, c .before .before .if1 .left)
 
--- src/lib.rt:199:9
 returns-2 : tie.Need-returns-2
 returns-2 c = tells-no (not-head (c .before .before .before .before .before .before .before .before .args .w .now) (c .before .before .before .before .before .before .before .before .args .n) (c .before .before .before .before .before .before .before .before .args .m) (c .before .before .before .before .before .before .before .before .args .joins) (c .before .before .before .before .before .before .before .before .args .groups) (c .before .before .before .before .before .before .before .before .args .s .now) (λ q. c .before .stands .ensures .no-is (turned-true (c .before .stands .result) (c .if2 .taken)) (rw (c .before .before .before .head-record .ensures) q)))
 
--- src/lib.rt:201:20
 sub-same-links : tie.Need-sub-same-links
 sub-same-links c = search needs
 
--- src/lib.rt:201:20
 part-same-links-start : tie.Need-part-same-links-start
 part-same-links-start c = search needs
 
--- src/lib.rt:201:20
 part-same-links-end : tie.Need-part-same-links-end
 part-same-links-end c = search needs
 
--- src/lib.rt:201:9
 same-links-requires : tie.Need-same-links-requires
 same-links-requires c κs = (link-part ((c .before .before .before .before .before .before .before .before .before .pre)), omega (arith, c .before .before .before .before .before .before .index-length .ensures, c .before .before .before .before .before .if1 .left))
 
--- src/lib.rt:202:9
 returns-3 : tie.Need-returns-3
 returns-3 c = tells-no (not-links (c .before .before .before .before .before .before .before .before .before .before .before .args .w .now) (c .before .before .before .before .before .before .before .before .before .before .before .args .n) (c .before .before .before .before .before .before .before .before .before .before .before .args .m) (c .before .before .before .before .before .before .before .before .before .before .before .args .joins) (c .before .before .before .before .before .before .before .before .before .before .before .args .groups) (c .before .before .before .before .before .before .before .before .before .before .before .args .s .now) (c .before .before .before .before .before .before .before .if1 .left ∙ c .before .before .before .before .before .before .before .before .index-length .ensures) (c .before .same-links .ensures .no-is (turned-true (c .before .same-links .result) (c .if3 .taken))))
 
--- src/lib.rt:204:17
 mul-a : tie.Need-mul-a
 mul-a c = search needs
 
--- src/lib.rt:204:13
 add-a : tie.Need-add-a
 add-a c = search needs
 
--- src/lib.rt:205:20
 sub-same-joins : tie.Need-sub-same-joins
 sub-same-joins c = search needs
 
--- src/lib.rt:205:20
 part-same-joins-start : tie.Need-part-same-joins-start
 part-same-joins-start c = search needs
 
--- src/lib.rt:205:20
 part-same-joins-end : tie.Need-part-same-joins-end
 part-same-joins-end c = search needs
 
--- src/lib.rt:205:9
 same-joins-requires : tie.Need-same-joins-requires
 same-joins-requires c κs = (join-part ((c .before .before .before .before .before .before .before .before .before .before .before .before .pre)), omega (arith, c .before .before .before .before .before .before .before .before .before .index-length .ensures, c .before .before .before .before .before .before .before .before .if1 .left))
 
--- src/lib.rt:206:9
 returns-4 : tie.Need-returns-4
 returns-4 c = tells-no (not-joins (c .before .before .before .before .before .before .before .before .before .before .before .before .before .before .args .w .now) (c .before .before .before .before .before .before .before .before .before .before .before .before .before .before .args .n) (c .before .before .before .before .before .before .before .before .before .before .before .before .before .before .args .m) (c .before .before .before .before .before .before .before .before .before .before .before .before .before .before .args .joins) (c .before .before .before .before .before .before .before .before .before .before .before .before .before .before .args .groups) (c .before .before .before .before .before .before .before .before .before .before .before .before .before .before .args .s .now) (c .before .before .before .before .before .before .before .before .before .before .if1 .left ∙ c .before .before .before .before .before .before .before .before .before .before .before .index-length .ensures) _ refl (c .before .same-joins .ensures .no-is (turned-true (c .before .same-joins .result) (c .if4 .taken))))
 
--- src/lib.rt:208:17
 mul-b : tie.Need-mul-b
 mul-b c = search needs
 
--- src/lib.rt:208:13
 add-b : tie.Need-add-b
 add-b c = search needs
 
--- src/lib.rt:209:21
 sub-same-groups : tie.Need-sub-same-groups
 sub-same-groups c = search needs
 
--- src/lib.rt:209:21
 part-same-groups-start : tie.Need-part-same-groups-start
 part-same-groups-start c = search needs
 
--- src/lib.rt:209:21
 part-same-groups-end : tie.Need-part-same-groups-end
 part-same-groups-end c = search needs
 
--- src/lib.rt:209:9
 same-groups-requires : tie.Need-same-groups-requires
 same-groups-requires c κs = (group-part ((c .before .before .before .before .before .before .before .before .before .before .before .before .before .before .before .pre)), omega (arith, c .before .before .before .before .before .before .before .before .before .before .before .before .index-length .ensures, c .before .before .before .before .before .before .before .before .before .before .before .if1 .left))
 
--- src/lib.rt:210:9
 returns-5 : tie.Need-returns-5
 returns-5 c = tells-no (not-groups (c .before .before .before .before .before .before .before .before .before .before .before .before .before .before .before .before .before .args .w .now) (c .before .before .before .before .before .before .before .before .before .before .before .before .before .before .before .before .before .args .n) (c .before .before .before .before .before .before .before .before .before .before .before .before .before .before .before .before .before .args .m) (c .before .before .before .before .before .before .before .before .before .before .before .before .before .before .before .before .before .args .joins) (c .before .before .before .before .before .before .before .before .before .before .before .before .before .before .before .before .before .args .groups) (c .before .before .before .before .before .before .before .before .before .before .before .before .before .before .before .before .before .args .s .now) (c .before .before .before .before .before .before .before .before .before .before .before .before .before .if1 .left ∙ c .before .before .before .before .before .before .before .before .before .before .before .before .before .before .index-length .ensures) _ refl (c .before .same-groups .ensures .no-is (turned-true (c .before .same-groups .result) (c .if5 .taken))))
 
--- src/lib.rt:212:17
 mul-e : tie.Need-mul-e
 mul-e c = search needs
 
--- src/lib.rt:212:13
 add-e : tie.Need-add-e
 add-e c = search needs
 
--- src/lib.rt:213:12
 sub-stands : tie.Need-sub-stands
 sub-stands c = search needs
 
--- src/lib.rt:213:12
 part-stands-start : tie.Need-part-stands-start
 part-stands-start c = search needs
 
--- src/lib.rt:213:12
 part-stands-end : tie.Need-part-stands-end
 part-stands-end c = search needs
 
--- src/lib.rt:213:21
 slice-aggregate-stands-2 : tie.Need-slice-aggregate-stands-2
 slice-aggregate-stands-2 c = search needs
 
--- src/lib.rt:213:5
 stands-requires-2 : tie.Need-stands-requires-2
 stands-requires-2 c κs = omega (arith, c .before .before .before .before .before .before .before .before .before .before .before .before .before .before .before .before .index-length .ensures, c .before .before .before .before .before .before .before .before .before .before .before .before .before .before .before .if1 .left)
 
--- src/lib.rt:190:1
 returns-6 : tie.Need-returns-6
 returns-6 c =
     let w = c .before .before .before .before .before .before .before .before .before .before .before .before .before .before .before .before .before .before .before .before .args .w .now in

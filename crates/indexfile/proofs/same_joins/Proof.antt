@@ -1,3 +1,4 @@
+-- `indexfile::same_joins` meets its contract. Assumes nothing.
 use Rattle.indexfile.specs.Comparing.{Matching, matching-none, matching-more, matching-not, matching-all}
 use Rattle.indexfile.specs.Rows.{joinRecord}
 use Rattle.wire.specs.Writing.{tells-yes, tells-no, turned-true, turned-false}
@@ -7,10 +8,6 @@ use Prim.Native.Nat.{_-_, _≤_}
 use borrow.Author.Needs.{needs}
 use Rattle.indexfile.proofs.same_joins.Statement.{statement}
 use Rattle.indexfile.proofs.same_joins.Tie as tie
-use Rattle.indexfile.proofs.same_joins.Reads as reads
-use Rattle.indexfile.proofs.same_joins.Lts as lts
-use Rattle.indexfile.proofs.join_in.Reads as join-in-reads
-use Rattle.wire.proofs.stands.Reads as stands-reads
 
 abbrev Inv-loop : tie.InvT-loop
 Inv-loop s w m joins i₀ at₀ i at = (i ≤ joins) × Matching (joinRecord w m) 6 (λ j. refl) s i at
@@ -18,55 +15,42 @@ Inv-loop s w m joins i₀ at₀ i at = (i ≤ joins) × Matching (joinRecord w m
 abbrev μ-loop : tie.MeasureT-loop
 μ-loop s w m joins i₀ at₀ i at = joins - i
 
--- src/lib.rt:113:5
 loop-holds : tie.Need-loop-holds Inv-loop μ-loop
 loop-holds c = (search needs, matching-none _ 6 (λ j. refl) _)
 
--- src/lib.rt:114:19
 join-in-requires : tie.Need-join-in-requires Inv-loop μ-loop
 join-in-requires c κs = let P = c .before .before .before .before .pre .0 in (P .size, (omega (arith, P .part), P .small _ (c .loop-test .taken)))
 
--- src/lib.rt:115:20
 sub-stands : tie.Need-sub-stands Inv-loop μ-loop
 sub-stands c = search needs
 
--- src/lib.rt:115:20
 part-stands-start : tie.Need-part-stands-start Inv-loop μ-loop
 part-stands-start c = search needs
 
--- src/lib.rt:115:20
 part-stands-end : tie.Need-part-stands-end Inv-loop μ-loop
 part-stands-end c = search needs
 
--- src/lib.rt:115:30
 slice-aggregate-stands : tie.Need-slice-aggregate-stands Inv-loop μ-loop
 slice-aggregate-stands c = search needs
 
--- src/lib.rt:115:13
 stands-requires : tie.Need-stands-requires Inv-loop μ-loop
 stands-requires c κs = search needs
 
--- src/lib.rt:116:13
 returns : tie.Need-returns Inv-loop μ-loop
 returns c = tells-no (matching-not _ 6 (λ j. refl) (c .before .before .before .before .before .before .before .before .before .args .joins) (c .before .before .before .before .before .before .loop .inv .1) (c .before .before .before .before .before .loop-test .taken) (omega (arith, c .before .before .before .before .before .before .loop .inv .1 .place, c .before .before .before .before .before .before .before .before .before .pre .1)) (λ q. c .before .stands .ensures .no-is (turned-true (c .before .stands .result) (c .if1 .taken)) (rw (c .before .before .before .before .join-in .ensures) q)))
 
--- src/lib.rt:118:9
 add-at : tie.Need-add-at Inv-loop μ-loop
 add-at c = search needs
 
--- src/lib.rt:119:9
 add-i : tie.Need-add-i Inv-loop μ-loop
 add-i c = search needs
 
--- src/lib.rt:113:5
 loop-less : tie.Need-loop-less Inv-loop μ-loop
 loop-less c = search needs
 
--- src/lib.rt:113:5
 loop-again : tie.Need-loop-again Inv-loop μ-loop
 loop-again c = (search needs, matching-more _ 6 (λ j. refl) (c .before .before .before .before .before .before .loop .inv .1) (omega (arith, c .before .before .before .before .before .before .loop .inv .1 .place, c .before .before .before .before .before .before .before .before .before .pre .1)) (rw (c .before .before .before .before .join-in .ensures) at (c .before .stands .ensures .yes-is (turned-false (c .before .stands .result) (c .if1 .left)))))
 
--- src/lib.rt:106:1
 returns-2 : tie.Need-returns-2 Inv-loop μ-loop
 returns-2 c = tells-yes (matching-all _ 6 (λ j. refl) (c .before .before .before .before .args .joins) (c .before .loop .inv .1) (c .before .loop .inv .0) (c .loop-test .left))
 

@@ -1,3 +1,4 @@
+-- `indexfile::write_index` meets its contract. Assumes nothing.
 use Rattle.indexfile.specs.Same.{H, L, J, G, front-links, front-joins, front-groups}
 use Rattle.indexfile.specs.Rows.{link-part, join-part, group-part, index-parts}
 use Rattle.wire.specs.Writing.{written, written-next}
@@ -9,123 +10,88 @@ use Prim.Native.Nat.{_+_, _*_, _-_}
 use borrow.Author.Needs.{needs}
 use Rattle.indexfile.proofs.write_index.Statement.{statement}
 use Rattle.indexfile.proofs.write_index.Tie as tie
-use Rattle.indexfile.proofs.write_index.Reads as reads
-use Rattle.indexfile.proofs.write_index.Lts as lts
-use Rattle.indexfile.proofs.write_groups.Reads as write-groups-reads
-use Rattle.indexfile.proofs.write_joins.Reads as write-joins-reads
-use Rattle.indexfile.proofs.write_links.Reads as write-links-reads
-use Rattle.wire.proofs.head_record.Reads as head-record-reads
-use Rattle.wire.proofs.paste.Reads as paste-reads
 
--- src/lib.rt:178:16
 head-record-requires : tie.Need-head-record-requires
 head-record-requires c κs = search needs
 
--- src/lib.rt:179:16
 slice-aggregate-paste : tie.Need-slice-aggregate-paste
 slice-aggregate-paste c = search needs
 
--- src/lib.rt:179:5
 paste-requires : tie.Need-paste-requires
 paste-requires c κs = search needs
 
--- src/lib.rt:180:17
 sub-write-links : tie.Need-sub-write-links
 sub-write-links c = search needs
 
--- src/lib.rt:180:17
 part-write-links-start : tie.Need-part-write-links-start
 part-write-links-start c = search needs
 
--- src/lib.rt:180:17
 part-write-links-end : tie.Need-part-write-links-end
 part-write-links-end c = search needs
 
--- src/lib.rt:180:5
 write-links-requires : tie.Need-write-links-requires
 write-links-requires c κs = (link-part (c .before .before .before .before .before .before .before .before .before .pre .0), search needs)
 
--- src/lib.rt:181:17
 mul-a : tie.Need-mul-a
 mul-a c = search needs
 
--- src/lib.rt:181:13
 add-a : tie.Need-add-a
 add-a c = search needs
 
--- src/lib.rt:182:17
 sub-write-joins : tie.Need-sub-write-joins
 sub-write-joins c = search needs
 
--- src/lib.rt:182:17
 part-write-joins-start : tie.Need-part-write-joins-start
 part-write-joins-start c = search needs
 
--- src/lib.rt:182:17
 part-write-joins-end : tie.Need-part-write-joins-end
 part-write-joins-end c = search needs
 
--- src/lib.rt:182:5
 write-joins-requires : tie.Need-write-joins-requires
 write-joins-requires c κs = (join-part (c .before .before .before .before .before .before .before .before .before .before .before .before .before .pre .0), search needs)
 
--- src/lib.rt:183:17
 mul-b : tie.Need-mul-b
 mul-b c = search needs
 
--- src/lib.rt:183:13
 add-b : tie.Need-add-b
 add-b c = search needs
 
--- src/lib.rt:184:18
 sub-write-groups : tie.Need-sub-write-groups
 sub-write-groups c = search needs
 
--- src/lib.rt:184:18
 part-write-groups-start : tie.Need-part-write-groups-start
 part-write-groups-start c = search needs
 
--- src/lib.rt:184:18
 part-write-groups-end : tie.Need-part-write-groups-end
 part-write-groups-end c = search needs
 
--- src/lib.rt:184:5
 write-groups-requires : tie.Need-write-groups-requires
 write-groups-requires c κs = (group-part (c .before .before .before .before .before .before .before .before .before .before .before .before .before .before .before .before .before .pre .0), search needs)
 
--- src/lib.rt:185:17
 mul-e : tie.Need-mul-e
 mul-e c = search needs
 
--- src/lib.rt:185:13
 add-e : tie.Need-add-e
 add-e c = search needs
 
--- src/lib.rt:186:11
 sub-paste : tie.Need-sub-paste
 sub-paste c = search needs
 
--- src/lib.rt:186:11
 part-paste-start : tie.Need-part-paste-start
 part-paste-start c = search needs
 
--- src/lib.rt:186:11
 part-paste-end : tie.Need-part-paste-end
 part-paste-end c = search needs
 
--- src/lib.rt:186:26
 slice-aggregate-paste-2 : tie.Need-slice-aggregate-paste-2
 slice-aggregate-paste-2 c = search needs
 
--- src/lib.rt:186:5
 paste-requires-2 : tie.Need-paste-requires-2
 paste-requires-2 c κs = search needs
 
--- src/lib.rt:173:1
 same-length : tie.Need-same-length
 same-length c = search needs
 
--- src/lib.rt:173:1
 returns : tie.Need-returns
 returns c =
     let w = c .before .before .before .before .before .before .before .before .before .before .before .before .before .before .before .before .before .before .before .before .before .before .before .before .before .args .w .now in

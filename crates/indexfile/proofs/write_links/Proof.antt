@@ -1,3 +1,4 @@
+-- `indexfile::write_links` meets its contract. Assumes nothing.
 use Rattle.indexfile.specs.Rows.{linkRecord}
 use Rattle.wire.specs.Writing.{written, written-none, written-next, upTo, upTo-more, upTo-length}
 use lib.ListN.{length}
@@ -7,10 +8,6 @@ use Prim.Native.Nat.{ℕ, _*_, _-_, _≤_}
 use borrow.Author.Needs.{needs}
 use Rattle.indexfile.proofs.write_links.Statement.{statement}
 use Rattle.indexfile.proofs.write_links.Tie as tie
-use Rattle.indexfile.proofs.write_links.Reads as reads
-use Rattle.indexfile.proofs.write_links.Lts as lts
-use Rattle.indexfile.proofs.link_in.Reads as link-in-reads
-use Rattle.wire.proofs.paste.Reads as paste-reads
 
 abbrev Inv-loop : tie.InvT-loop
 Inv-loop out₀ w m i₀ at₀ out i at = (i ≤ m) × (at ≡ i * 8) × (out ≡ written out₀ 0 (upTo (linkRecord w m) i)) × (length out ≡ length out₀)
@@ -18,48 +15,37 @@ Inv-loop out₀ w m i₀ at₀ out i at = (i ≤ m) × (at ≡ i * 8) × (out �
 abbrev μ-loop : tie.MeasureT-loop
 μ-loop out₀ w m i₀ at₀ out i at = m - i
 
--- src/lib.rt:50:5
 loop-holds : tie.Need-loop-holds Inv-loop μ-loop
 unfolding upTo
 loop-holds c = (search needs, search needs, written-none _ _, search needs)
 
--- src/lib.rt:51:19
 link-in-requires : tie.Need-link-in-requires Inv-loop μ-loop
 link-in-requires c κs = let P = c .before .before .before .before .pre .0 in (P .size, (omega (arith, P .part), P .small _ (c .loop-test .taken)))
 
--- src/lib.rt:52:15
 sub-paste : tie.Need-sub-paste Inv-loop μ-loop
 sub-paste c = search needs
 
--- src/lib.rt:52:15
 part-paste-start : tie.Need-part-paste-start Inv-loop μ-loop
 part-paste-start c = search needs
 
--- src/lib.rt:52:15
 part-paste-end : tie.Need-part-paste-end Inv-loop μ-loop
 part-paste-end c = search needs
 
--- src/lib.rt:52:31
 slice-aggregate-paste : tie.Need-slice-aggregate-paste Inv-loop μ-loop
 slice-aggregate-paste c = search needs
 
--- src/lib.rt:52:9
 paste-requires : tie.Need-paste-requires Inv-loop μ-loop
 paste-requires c κs = search needs
 
--- src/lib.rt:53:9
 add-at : tie.Need-add-at Inv-loop μ-loop
 add-at c = search needs
 
--- src/lib.rt:54:9
 add-i : tie.Need-add-i Inv-loop μ-loop
 add-i c = search needs
 
--- src/lib.rt:50:5
 loop-less : tie.Need-loop-less Inv-loop μ-loop
 loop-less c = search needs
 
--- src/lib.rt:50:5
 loop-again : tie.Need-loop-again Inv-loop μ-loop
 loop-again c =
     let w = c .before .before .before .before .before .before .before .before .before .before .args .w .now in
@@ -71,11 +57,9 @@ loop-again c =
       search needs,
     )
 
--- src/lib.rt:43:1
 same-length : tie.Need-same-length Inv-loop μ-loop
 same-length c = search needs
 
--- src/lib.rt:43:1
 returns : tie.Need-returns Inv-loop μ-loop
 returns c =
     let e : c .before .loop .i ≡ c .before .before .before .before .args .m = omega arith in

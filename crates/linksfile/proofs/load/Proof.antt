@@ -1,46 +1,34 @@
+-- `linksfile::load` meets its contract. Assumes nothing.
 use Rattle.linksfile.specs.Load.{scan-asks, load-few, sort-asks, load-repeat, load-scan}
 use native.Mathlib.Omega.{arith}
 use borrow.Author.Needs.{needs}
 use Rattle.linksfile.proofs.load.Statement.{statement}
 use Rattle.linksfile.proofs.load.Tie as tie
-use Rattle.linksfile.proofs.load.Reads as reads
-use Rattle.linksfile.proofs.load.Lts as lts
-use Rattle.linksfile.proofs.scan.Reads as scan-reads
-use Rattle.sorting.proofs.sort.Reads as sort-reads
 
--- src/lib.rt:156:9
 scan-requires : tie.Need-scan-requires
 scan-requires c κs = scan-asks ((c .before .before .before .pre))
 
--- src/lib.rt:158:9
 sort-requires : tie.Need-sort-requires
 sort-requires c κs = (_, sort-asks ((c .before .before .before .before .before .before .before .pre)) (c .before .before .before .scan .ensures))
 
--- src/lib.rt:162:25
 mul-t13 : tie.Need-mul-t13
 mul-t13 c = search needs
 
--- src/lib.rt:162:21
 add-t14 : tie.Need-add-t14
 add-t14 c = search needs
 
--- src/lib.rt:162:20
 cast-t15 : tie.Need-cast-t15
 cast-t15 c = omega (arith, load-few ((c .before .before .before .before .before .before .before .before .before .before .before .pre)) (c .before .before .before .before .before .before .before .scan .ensures), c .before .before .before .before .before .before .before .scan .ensures .part, c .if1 .taken)
 
--- src/lib.rt:160:9
 same-length : tie.Need-same-length
 same-length c = search needs
 
--- src/lib.rt:160:9
 returns : tie.Need-returns
 returns c = load-repeat ((c .before .before .before .before .before .before .before .before .before .before .before .pre)) (c .before .before .before .before .before .before .before .scan .ensures) (c .before .before .before .sort .ensures _ (sort-asks ((c .before .before .before .before .before .before .before .before .before .before .before .pre)) (c .before .before .before .before .before .before .before .scan .ensures))) (c .if1 .taken)
 
--- src/lib.rt:152:1
 same-length-2 : tie.Need-same-length-2
 same-length-2 c = search needs
 
--- src/lib.rt:152:1
 returns-2 : tie.Need-returns-2
 returns-2 c = load-scan ((c .before .before .before .before .before .before .before .before .before .before .before .pre)) (c .before .before .before .before .before .before .before .scan .ensures) (c .before .before .before .sort .ensures _ (sort-asks ((c .before .before .before .before .before .before .before .before .before .before .before .pre)) (c .before .before .before .before .before .before .before .scan .ensures))) (c .if1 .left)
 

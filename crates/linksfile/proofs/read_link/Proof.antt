@@ -1,3 +1,4 @@
+-- `linksfile::read_link` meets its contract. Assumes nothing.
 use Rattle.wire.specs.Writing.{turned-true, turned-false}
 use Rattle.linksfile.specs.Checks.{whole-link, record-1, record-4-first, record-4-second, record-5, record-key}
 use Rattle.linksfile.specs.Answers.{plainOf}
@@ -6,57 +7,41 @@ use mathlib.Core.Path.{sym, _∙_}
 use borrow.Author.Needs.{needs}
 use Rattle.linksfile.proofs.read_link.Statement.{statement}
 use Rattle.linksfile.proofs.read_link.Tie as tie
-use Rattle.linksfile.proofs.read_link.Reads as reads
-use Rattle.linksfile.proofs.read_link.Lts as lts
-use Rattle.linksfile.proofs.key_of.Reads as key-of-reads
-use Rattle.wire.proofs.field_at.Reads as field-at-reads
-use Rattle.wire.proofs.whole_record.Reads as whole-record-reads
 
--- src/lib.rt:83:9
 whole-record-requires : tie.Need-whole-record-requires
 whole-record-requires c κs = search needs
 
--- src/lib.rt:84:9
 returns : tie.Need-returns
 unfolding plainOf
 returns c = record-1 (c .before .before .before .args .s .now) (c .before .before .before .args .n) (c .before .before .before .args .at) (sym (c .before .whole-record .ensures) ∙ turned-true (c .before .whole-record .result) (c .if1 .taken))
 
--- src/lib.rt:86:25
 add-field-at : tie.Need-add-field-at
 add-field-at c = search needs
 
--- src/lib.rt:86:9
 field-at-requires : tie.Need-field-at-requires
 field-at-requires c κs = omega (arith, whole-link (c .before .before .before .args .s .now) (c .before .before .before .args .at) (sym (c .before .whole-record .ensures) ∙ turned-false (c .before .whole-record .result) (c .if1 .left)))
 
--- src/lib.rt:87:25
 add-field-at-2 : tie.Need-add-field-at-2
 add-field-at-2 c = search needs
 
--- src/lib.rt:87:9
 field-at-requires-2 : tie.Need-field-at-requires-2
 field-at-requires-2 c κs = omega (arith, whole-link (c .before .before .before .before .args .s .now) (c .before .before .before .before .args .at) (sym (c .before .before .whole-record .ensures) ∙ turned-false (c .before .before .whole-record .result) (c .before .if1 .left)))
 
--- src/lib.rt:89:9
 returns-2 : tie.Need-returns-2
 unfolding plainOf
 returns-2 c = record-4-first (c .before .before .before .before .before .before .args .s .now) (c .before .before .before .before .before .before .args .n) (c .before .before .before .before .before .before .args .at) _ _ (sym (c .before .before .before .before .whole-record .ensures) ∙ turned-false (c .before .before .before .before .whole-record .result) (c .before .before .before .if1 .left)) (c .before .before .field-at .ensures .0) (c .before .field-at2 .ensures .0) (c .if2 .taken)
 
--- src/lib.rt:92:9
 returns-3 : tie.Need-returns-3
 unfolding plainOf
 returns-3 c = record-4-second (c .before .before .before .before .before .before .before .args .s .now) (c .before .before .before .before .before .before .before .args .n) (c .before .before .before .before .before .before .before .args .at) _ _ (sym (c .before .before .before .before .before .whole-record .ensures) ∙ turned-false (c .before .before .before .before .before .whole-record .result) (c .before .before .before .before .if1 .left)) (c .before .before .before .field-at .ensures .0) (c .before .before .field-at2 .ensures .0) (c .before .if2 .left) (c .if3 .taken)
 
--- src/lib.rt:95:9
 returns-4 : tie.Need-returns-4
 unfolding plainOf
 returns-4 c = record-5 (c .before .before .before .before .before .before .before .before .args .s .now) (c .before .before .before .before .before .before .before .before .args .n) (c .before .before .before .before .before .before .before .before .args .at) _ _ (sym (c .before .before .before .before .before .before .whole-record .ensures) ∙ turned-false (c .before .before .before .before .before .before .whole-record .result) (c .before .before .before .before .before .if1 .left)) (c .before .before .before .before .field-at .ensures .0) (c .before .before .before .field-at2 .ensures .0) (c .before .before .if2 .left) (c .before .if3 .left) (c .if4 .taken)
 
--- src/lib.rt:97:16
 key-of-requires : tie.Need-key-of-requires
 key-of-requires c κs = search needs
 
--- src/lib.rt:79:1
 returns-5 : tie.Need-returns-5
 unfolding plainOf
 returns-5 c = record-key (c .before .before .before .before .before .before .before .before .before .args .s .now) (c .before .before .before .before .before .before .before .before .before .args .n) (c .before .before .before .before .before .before .before .before .before .args .at) _ _ (sym (c .before .before .before .before .before .before .before .whole-record .ensures) ∙ turned-false (c .before .before .before .before .before .before .before .whole-record .result) (c .before .before .before .before .before .before .if1 .left)) (c .before .before .before .before .before .field-at .ensures .0) (c .before .before .before .before .field-at2 .ensures .0) (c .before .before .before .if2 .left) (c .before .before .if3 .left) (c .before .if4 .left) _ (c .key-of .ensures)

@@ -1,3 +1,4 @@
+-- `linksfile::scan` meets its contract. Assumes nothing.
 use Rattle.linksfile.specs.Checks.{Scanning, scanning-none, scanning-more, scanned-fault, scanned-end, fault-number, key-small}
 use Rattle.linksfile.specs.Answers.{plainOf}
 use lib.ListN.{length}
@@ -7,11 +8,6 @@ use Prim.Native.Nat.{_+_, _*_, _-_}
 use borrow.Author.Needs.{needs}
 use Rattle.linksfile.proofs.scan.Statement.{statement}
 use Rattle.linksfile.proofs.scan.Tie as tie
-use Rattle.linksfile.proofs.scan.Reads as reads
-use Rattle.linksfile.proofs.scan.Lts as lts
-use Rattle.columns.proofs.put.Reads as put-reads
-use Rattle.linksfile.proofs.ending.Reads as ending-reads
-use Rattle.linksfile.proofs.read_link.Reads as read-link-reads
 
 abbrev Inv-loop : tie.InvT-loop
 Inv-loop s n m w₀ i₀ w i = (length w ≡ length w₀) × Scanning s n m i w
@@ -19,27 +15,21 @@ Inv-loop s n m w₀ i₀ w i = (length w ≡ length w₀) × Scanning s n m i w
 abbrev μ-loop : tie.MeasureT-loop
 μ-loop s n m w₀ i₀ w i = m - i
 
--- src/lib.rt:129:5
 loop-holds : tie.Need-loop-holds Inv-loop μ-loop
 loop-holds c = (refl, scanning-none (c .before .before .pre .size))
 
--- src/lib.rt:130:22
 mul-at : tie.Need-mul-at Inv-loop μ-loop
 mul-at c = omega (arith, c .before .before .before .before .pre .few, c .loop-test .taken)
 
--- src/lib.rt:130:18
 add-at : tie.Need-add-at Inv-loop μ-loop
 add-at c = omega (arith, c .before .before .before .before .pre .few, c .loop-test .taken)
 
--- src/lib.rt:131:15
 read-link-requires : tie.Need-read-link-requires Inv-loop μ-loop
 read-link-requires c κs = omega (arith, c .before .before .before .before .pre .few, c .loop-test .taken)
 
--- src/lib.rt:132:24
 enum-known-k : tie.Need-enum-known-k Inv-loop μ-loop
 enum-known-k c = search needs
 
--- src/lib.rt:132:30
 put-requires : tie.Need-put-requires Inv-loop μ-loop
 unfolding plainOf
 put-requires c κs =
@@ -47,57 +37,45 @@ put-requires c κs =
     let q = sym (ap (λ x. plainOf x (5 + 5 * c .before .before .before .before .before .before .loop .i)) (c .before .before .k .given .1)) ∙ c .before .before .before .before .read-link .ensures in
     (omega arith, (c .before .before .before .before .before .loop-test .taken, (key-small (c .before .before .before .before .before .before .before .before .before .args .s .now) (c .before .before .before .before .before .before .before .before .before .args .n) (c .before .before .before .before .before .before .loop .i) _ (c .before .before .before .before .before .before .before .before .before .pre .small) q, S .size)))
 
--- src/lib.rt:133:26
 enum-known-number : tie.Need-enum-known-number Inv-loop μ-loop
 enum-known-number c = search needs
 
--- src/lib.rt:137:28
 cast-t16 : tie.Need-cast-t16 Inv-loop μ-loop
 cast-t16 c = omega (arith, c .before .before .before .before .before .before .before .before .pre .few, c .before .before .before .before .loop-test .taken)
 
--- src/lib.rt:134:17
 same-length : tie.Need-same-length Inv-loop μ-loop
 same-length c = c .before .before .before .before .before .loop .inv .0
 
--- src/lib.rt:134:17
 returns : tie.Need-returns Inv-loop μ-loop
 unfolding plainOf
 returns c =
     let q = sym (ap (λ x. plainOf x (5 + 5 * c .before .before .before .before .before .loop .i)) (c .before .number .given .1)) ∙ c .before .before .before .read-link .ensures in
     scanned-fault (c .before .before .before .before .before .loop .inv .1) (c .before .before .before .before .loop-test .taken) (fault-number (c .before .before .before .before .before .before .before .before .args .s .now) (c .before .before .before .before .before .before .before .before .args .n) _ _ q) q
 
--- src/lib.rt:141:9
 add-i : tie.Need-add-i Inv-loop μ-loop
 add-i c = omega (arith, c .before .before .before .before .before .before .before .before .before .before .before .before .pre .few, c .before .before .before .before .before .before .before .before .loop-test .taken)
 
--- src/lib.rt:129:5
 loop-less : tie.Need-loop-less Inv-loop μ-loop
 loop-less c = search needs
 
--- src/lib.rt:129:5
 loop-again : tie.Need-loop-again Inv-loop μ-loop
 unfolding plainOf
 loop-again c =
     let q = sym (ap (λ x. plainOf x (5 + 5 * c .before .before .before .before .before .before .before .before .before .loop .i)) (c .before .before .before .before .before .k .given .1)) ∙ c .before .before .before .before .before .before .before .read-link .ensures in
     (search needs, scanning-more (c .before .before .before .before .before .before .before .before .before .loop .inv .1) (c .before .before .before .before .before .before .before .before .loop-test .taken) q (c .before .before .put .ensures))
 
--- src/lib.rt:143:27
 mul-ending : tie.Need-mul-ending Inv-loop μ-loop
 mul-ending c = omega (arith, c .before .before .before .before .pre .few)
 
--- src/lib.rt:143:23
 add-ending : tie.Need-add-ending Inv-loop μ-loop
 add-ending c = omega (arith, c .before .before .before .before .pre .few)
 
--- src/lib.rt:143:9
 ending-requires : tie.Need-ending-requires Inv-loop μ-loop
 ending-requires c κs = omega (arith, c .before .before .before .before .pre .few)
 
--- src/lib.rt:124:1
 same-length-2 : tie.Need-same-length-2 Inv-loop μ-loop
 same-length-2 c = c .before .before .loop .inv .0
 
--- src/lib.rt:124:1
 returns-2 : tie.Need-returns-2 Inv-loop μ-loop
 returns-2 c = scanned-end (c .before .before .loop .inv .1) (c .before .loop-test .left) (c .ending .ensures)
 

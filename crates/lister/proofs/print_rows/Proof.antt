@@ -1,10 +1,8 @@
+-- `lister::print_rows` meets its contract. Assumes nothing.
 use Prim.Native.Nat.{_-_, _≤_}
 use borrow.Author.Needs.{needs}
 use Rattle.lister.proofs.print_rows.Statement.{statement}
 use Rattle.lister.proofs.print_rows.Tie as tie
-use Rattle.lister.proofs.print_rows.Reads as reads
-use Rattle.lister.proofs.print_rows.Lts as lts
-use Rattle.lister.proofs.print_row.Reads as print-row-reads
 
 abbrev Inv-loop : tie.InvT-loop
 Inv-loop out groups g₀ g = g ≤ groups
@@ -12,51 +10,39 @@ Inv-loop out groups g₀ g = g ≤ groups
 abbrev μ-loop : tie.MeasureT-loop
 μ-loop out groups g₀ g = groups - g
 
--- src/main.rt:45:5
 loop-holds : tie.Need-loop-holds Inv-loop μ-loop
 loop-holds c = search needs
 
--- src/main.rt:46:18
 cast-at : tie.Need-cast-at Inv-loop μ-loop
 cast-at c = search needs
 
--- src/main.rt:46:18
 mul-at : tie.Need-mul-at Inv-loop μ-loop
 mul-at c = search needs
 
--- src/main.rt:48:26
 mul-print-row : tie.Need-mul-print-row Inv-loop μ-loop
 mul-print-row c = search needs
 
--- src/main.rt:48:26
 sub-print-row : tie.Need-sub-print-row Inv-loop μ-loop
 sub-print-row c = search needs
 
--- src/main.rt:48:26
 part-print-row-start : tie.Need-part-print-row-start Inv-loop μ-loop
 part-print-row-start c = search needs
 
--- src/main.rt:48:26
 part-print-row-end : tie.Need-part-print-row-end Inv-loop μ-loop
 part-print-row-end c = search needs
 
--- src/main.rt:48:13
 print-row-requires : tie.Need-print-row-requires Inv-loop μ-loop
 print-row-requires c κs = search needs
 
--- src/main.rt:50:9
 add-g : tie.Need-add-g Inv-loop μ-loop
 add-g c = search needs
 
--- src/main.rt:45:5
 loop-less : tie.Need-loop-less Inv-loop μ-loop
 loop-less c = search needs
 
--- src/main.rt:45:5
 loop-again : tie.Need-loop-again Inv-loop μ-loop
 loop-again c = search needs
 
--- src/main.rt:43:1
 returns : tie.Need-returns Inv-loop μ-loop
 returns c = search needs
 

@@ -1,43 +1,35 @@
+-- `wire::body_length` meets its contract. Assumes nothing.
 use Rattle.wire.specs.WireLaws.{unknown}
 use Rattle.wire.specs.Wire.{bodyOf}
 use Rattle.truss.specs.Record.{bodyLength}
 use mathlib.Core.Path.{sym, ap}
 use Rattle.wire.proofs.body_length.Statement.{statement}
 use Rattle.wire.proofs.body_length.Tie as tie
-use Rattle.wire.proofs.body_length.Reads as reads
-use Rattle.wire.proofs.body_length.Lts as lts
 
--- src/lib.rt:26:1
 returns : tie.Need-returns
 unfolding bodyOf bodyLength
 returns c = sym (ap bodyLength (c .match .keys1))
 
--- src/lib.rt:26:1
 returns-2 : tie.Need-returns-2
 unfolding bodyOf bodyLength
 returns-2 c = sym (ap bodyLength (c .match .keys2))
 
--- src/lib.rt:26:1
 returns-3 : tie.Need-returns-3
 unfolding bodyOf bodyLength
 returns-3 c = sym (ap bodyLength (c .match .keys3))
 
--- src/lib.rt:26:1
 returns-4 : tie.Need-returns-4
 unfolding bodyOf bodyLength
 returns-4 c = sym (ap bodyLength (c .match .keys4))
 
--- src/lib.rt:26:1
 returns-5 : tie.Need-returns-5
 unfolding bodyOf bodyLength
 returns-5 c = sym (ap bodyLength (c .match .keys5))
 
--- src/lib.rt:26:1
 returns-6 : tie.Need-returns-6
 unfolding bodyOf bodyLength
 returns-6 c = sym (ap bodyLength (c .match .keys6))
 
--- src/lib.rt:26:1
 returns-7 : tie.Need-returns-7
 unfolding bodyOf
 returns-7 c = unknown _ (c .match .rest .0 .0 .0 .0 .0 .1) (c .match .rest .0 .0 .0 .0 .1) (c .match .rest .0 .0 .0 .1) (c .match .rest .0 .0 .1) (c .match .rest .0 .1) (c .match .rest .1)

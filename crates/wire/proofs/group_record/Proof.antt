@@ -1,34 +1,25 @@
+-- `wire::group_record` meets its contract. Assumes nothing.
 use native.Mathlib.Omega.{arith}
 use mathlib.Core.Path.{_≡_, refl}
 use borrow.Author.Needs.{needs}
 use Rattle.wire.proofs.group_record.Statement.{statement}
 use Rattle.wire.proofs.group_record.Tie as tie
-use Rattle.wire.proofs.group_record.Reads as reads
-use Rattle.wire.proofs.group_record.Lts as lts
-use Rattle.wire.proofs.high.Reads as high-reads
-use Rattle.wire.proofs.low.Reads as low-reads
 
--- src/lib.rt:159:13
 high-requires : tie.Need-high-requires
 high-requires c κs = search needs
 
--- src/lib.rt:159:22
 low-requires : tie.Need-low-requires
 low-requires c κs = search needs
 
--- src/lib.rt:159:30
 low-requires-2 : tie.Need-low-requires-2
 low-requires-2 c κs = search needs
 
--- src/lib.rt:159:38
 high-requires-2 : tie.Need-high-requires-2
 high-requires-2 c κs = search needs
 
--- src/lib.rt:159:47
 low-requires-3 : tie.Need-low-requires-3
 low-requires-3 c κs = search needs
 
--- src/lib.rt:155:1
 returns : tie.Need-returns
 returns c =
     let k : c .before .before .low2 .result ≡ c .before .before .before .before .before .args .k = omega (arith, c .before .before .low2 .ensures, (c .before .before .before .before .before .pre)) in

@@ -1,3 +1,4 @@
+-- `wire::paste` meets its contract. Assumes nothing.
 use Rattle.wire.specs.Writing.{written, written-none, written-byte}
 use lib.Seq.{take-all}
 use lib.ListN.{length, take}
@@ -7,8 +8,6 @@ use Prim.Native.Nat.{_-_, _≤_}
 use borrow.Author.Needs.{needs}
 use Rattle.wire.proofs.paste.Statement.{statement}
 use Rattle.wire.proofs.paste.Tie as tie
-use Rattle.wire.proofs.paste.Reads as reads
-use Rattle.wire.proofs.paste.Lts as lts
 
 abbrev Inv-loop : tie.InvT-loop
 Inv-loop out₀ rec i₀ out i = (i ≤ length rec) × (length out ≡ length out₀) × (out ≡ written out₀ 0 (take i rec))
@@ -16,35 +15,27 @@ Inv-loop out₀ rec i₀ out i = (i ≤ length rec) × (length out ≡ length ou
 abbrev μ-loop : tie.MeasureT-loop
 μ-loop out₀ rec i₀ out i = length rec - i
 
--- src/lib.rt:82:5
 loop-holds : tie.Need-loop-holds Inv-loop μ-loop
 loop-holds c = (search needs, search needs, written-none _ _)
 
--- src/lib.rt:83:18
 shared-slice-read-out : tie.Need-shared-slice-read-out Inv-loop μ-loop
 shared-slice-read-out c = search needs
 
--- src/lib.rt:83:9
 slice-write-out : tie.Need-slice-write-out Inv-loop μ-loop
 slice-write-out c = search needs
 
--- src/lib.rt:84:9
 add-i : tie.Need-add-i Inv-loop μ-loop
 add-i c = search needs
 
--- src/lib.rt:82:5
 loop-less : tie.Need-loop-less Inv-loop μ-loop
 loop-less c = search needs
 
--- src/lib.rt:82:5
 loop-again : tie.Need-loop-again Inv-loop μ-loop
 loop-again c = (search needs, search needs, written-byte _ _ _ ((c .before .before .before .pre)) (omega arith) (c .before .before .loop .inv .2) refl)
 
--- src/lib.rt:77:1
 same-length : tie.Need-same-length Inv-loop μ-loop
 same-length c = search needs
 
--- src/lib.rt:77:1
 returns : tie.Need-returns Inv-loop μ-loop
 returns c = c .before .loop .inv .2 ∙ ap (written (c .before .before .args .out .now) 0) (take-all (c .before .loop .i) (c .before .before .args .rec .now) (omega arith))
 

@@ -1,3 +1,4 @@
+-- `wire::stands` meets its contract. Assumes nothing.
 use Rattle.wire.specs.Writing.{tells-yes, tells-no, stands-more, stands-not, stands-all}
 use lib.ListN.{length, take}
 use native.Mathlib.Omega.{arith}
@@ -6,8 +7,6 @@ use Prim.Native.Nat.{_-_, _≤_}
 use borrow.Author.Needs.{needs}
 use Rattle.wire.proofs.stands.Statement.{statement}
 use Rattle.wire.proofs.stands.Tie as tie
-use Rattle.wire.proofs.stands.Reads as reads
-use Rattle.wire.proofs.stands.Lts as lts
 
 abbrev Inv-loop : tie.InvT-loop
 Inv-loop s rec i₀ i = (i ≤ length rec) × (take i s ≡ take i rec)
@@ -15,35 +14,27 @@ Inv-loop s rec i₀ i = (i ≤ length rec) × (take i s ≡ take i rec)
 abbrev μ-loop : tie.MeasureT-loop
 μ-loop s rec i₀ i = length rec - i
 
--- src/lib.rt:94:5
 loop-holds : tie.Need-loop-holds Inv-loop μ-loop
 loop-holds c = (search needs, refl)
 
--- src/lib.rt:95:12
 shared-slice-read-if1 : tie.Need-shared-slice-read-if1 Inv-loop μ-loop
 shared-slice-read-if1 c = search needs
 
--- src/lib.rt:95:20
 shared-slice-read-if1-2 : tie.Need-shared-slice-read-if1-2 Inv-loop μ-loop
 shared-slice-read-if1-2 c = search needs
 
--- src/lib.rt:96:13
 returns : tie.Need-returns Inv-loop μ-loop
 returns c = tells-no (stands-not (c .before .before .before .before .before .args .s .now) (c .before .before .before .before .before .args .rec .now) (c .before .before .before .before .loop .i) (omega arith) (c .if1 .taken))
 
--- src/lib.rt:98:9
 add-i : tie.Need-add-i Inv-loop μ-loop
 add-i c = search needs
 
--- src/lib.rt:94:5
 loop-less : tie.Need-loop-less Inv-loop μ-loop
 loop-less c = search needs
 
--- src/lib.rt:94:5
 loop-again : tie.Need-loop-again Inv-loop μ-loop
 loop-again c = (search needs, stands-more (c .before .before .before .before .before .args .s .now) (c .before .before .before .before .before .args .rec .now) (c .before .before .before .before .loop .i) ((c .before .before .before .before .before .pre)) (omega arith) (c .before .before .before .before .loop .inv .1) (c .if1 .left))
 
--- src/lib.rt:89:1
 returns-2 : tie.Need-returns-2 Inv-loop μ-loop
 returns-2 c = tells-yes (stands-all (c .before .before .args .s .now) (c .before .before .args .rec .now) (c .before .loop .i) (omega arith) (omega arith) (c .before .loop .inv .1))
 

@@ -4,9 +4,6 @@ use Prim.Native.Nat.{_-_, _≤_}
 use native.Mathlib.Omega.{arith}
 use Rattle.groups.proofs.level.adopt.Statement.{statement}
 use Rattle.groups.proofs.level.adopt.Tie as tie
-use Rattle.groups.proofs.level.adopt.Reads as reads
-use Rattle.groups.proofs.level.adopt.Lts as lts
-use Rattle.groups.proofs.level.adopt_one.Reads as adopt-one-reads
 
 abbrev Inv-loop : tie.InvT-loop
 Inv-loop w₀ m k count g₀ w g = (g ≤ count) × AdoptsGives m k count g w₀ w

@@ -6,11 +6,6 @@ use mathlib.Core.Path.{_∙_}
 use borrow.Author.Needs.{needs}
 use Rattle.groups.proofs.level.adopt_one.Statement.{statement}
 use Rattle.groups.proofs.level.adopt_one.Tie as tie
-use Rattle.groups.proofs.level.adopt_one.Reads as reads
-use Rattle.groups.proofs.level.adopt_one.Lts as lts
-use Rattle.columns.proofs.get.Reads as get-reads
-use Rattle.columns.proofs.put.Reads as put-reads
-use Rattle.unions.proofs.roots.find.Reads as find-reads
 
 get-requires : tie.Need-get-requires
 get-requires c κs = (omega arith, (omega (arith, c .before .before .pre .5 .g-in, c .before .before .pre .5 .c-in), c .before .before .pre .5 .ready .at .given .size-is))

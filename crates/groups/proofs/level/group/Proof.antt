@@ -3,12 +3,6 @@ use Rattle.groups.specs.Level.{group-marks, group-numbers, group-names, 
 use borrow.Author.Needs.{needs}
 use Rattle.groups.proofs.level.group.Statement.{statement}
 use Rattle.groups.proofs.level.group.Tie as tie
-use Rattle.groups.proofs.level.group.Reads as reads
-use Rattle.groups.proofs.level.group.Lts as lts
-use Rattle.groups.proofs.level.adopt.Reads as adopt-reads
-use Rattle.groups.proofs.level.mark_roots.Reads as mark-roots-reads
-use Rattle.groups.proofs.level.name_groups.Reads as name-groups-reads
-use Rattle.groups.proofs.level.number_roots.Reads as number-roots-reads
 
 mark-roots-requires : tie.Need-mark-roots-requires
 mark-roots-requires c κs = (c .before .before .pre .0, c .before .before .pre .1, group-marks (c .before .before .pre .4))

@@ -5,11 +5,6 @@ use mathlib.Core.Path.{_∙_}
 use borrow.Author.Needs.{needs}
 use Rattle.groups.proofs.level.mark_one.Statement.{statement}
 use Rattle.groups.proofs.level.mark_one.Tie as tie
-use Rattle.groups.proofs.level.mark_one.Reads as reads
-use Rattle.groups.proofs.level.mark_one.Lts as lts
-use Rattle.columns.proofs.get.Reads as get-reads
-use Rattle.columns.proofs.put.Reads as put-reads
-use Rattle.unions.proofs.roots.find.Reads as find-reads
 
 get-requires : tie.Need-get-requires
 get-requires c κs = search needs

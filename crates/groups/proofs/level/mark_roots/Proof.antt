@@ -4,9 +4,6 @@ use Prim.Native.Nat.{_-_, _≤_}
 use native.Mathlib.Omega.{arith}
 use Rattle.groups.proofs.level.mark_roots.Statement.{statement}
 use Rattle.groups.proofs.level.mark_roots.Tie as tie
-use Rattle.groups.proofs.level.mark_roots.Reads as reads
-use Rattle.groups.proofs.level.mark_roots.Lts as lts
-use Rattle.groups.proofs.level.mark_one.Reads as mark-one-reads
 
 abbrev Inv-loop : tie.InvT-loop
 Inv-loop w₀ m k e₀ w e = (e ≤ m) × MarksGives m k e w₀ w

@@ -4,9 +4,6 @@ use Prim.Native.Nat.{_-_, _≤_}
 use native.Mathlib.Omega.{arith}
 use Rattle.groups.proofs.level.name_groups.Statement.{statement}
 use Rattle.groups.proofs.level.name_groups.Tie as tie
-use Rattle.groups.proofs.level.name_groups.Reads as reads
-use Rattle.groups.proofs.level.name_groups.Lts as lts
-use Rattle.groups.proofs.level.name_one.Reads as name-one-reads
 
 abbrev Inv-loop : tie.InvT-loop
 Inv-loop w₀ m k e₀ w e = (e ≤ m) × NamesGives m k e w₀ w

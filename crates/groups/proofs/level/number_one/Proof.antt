@@ -5,10 +5,6 @@ use mathlib.Core.Path.{refl, _∙_}
 use borrow.Author.Needs.{needs}
 use Rattle.groups.proofs.level.number_one.Statement.{statement}
 use Rattle.groups.proofs.level.number_one.Tie as tie
-use Rattle.groups.proofs.level.number_one.Reads as reads
-use Rattle.groups.proofs.level.number_one.Lts as lts
-use Rattle.columns.proofs.get.Reads as get-reads
-use Rattle.columns.proofs.put.Reads as put-reads
 
 get-requires : tie.Need-get-requires
 get-requires c κs = (omega arith, (c .before .before .pre .4 .r-in, c .before .before .pre .4 .at .given .size-is))

@@ -4,9 +4,6 @@ use Prim.Native.Nat.{_-_, _≤_}
 use native.Mathlib.Omega.{arith}
 use Rattle.groups.proofs.level.number_roots.Statement.{statement}
 use Rattle.groups.proofs.level.number_roots.Tie as tie
-use Rattle.groups.proofs.level.number_roots.Reads as reads
-use Rattle.groups.proofs.level.number_roots.Lts as lts
-use Rattle.groups.proofs.level.number_one.Reads as number-one-reads
 
 abbrev Inv-loop : tie.InvT-loop
 Inv-loop w₀ m k from g₀ r₀ w g r = (r ≤ m) × NumbersGives m k r from g w₀ w

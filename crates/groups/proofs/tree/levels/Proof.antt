@@ -11,11 +11,6 @@ use mathlib.Core.Path.{_≡_, refl, _∙_}
 use borrow.Author.Needs.{needs}
 use Rattle.groups.proofs.tree.levels.Statement.{statement}
 use Rattle.groups.proofs.tree.levels.Tie as tie
-use Rattle.groups.proofs.tree.levels.Reads as reads
-use Rattle.groups.proofs.tree.levels.Lts as lts
-use Rattle.forest.proofs.level.level.Reads as level-reads
-use Rattle.forest.proofs.level.top.Reads as top-reads
-use Rattle.groups.proofs.level.group.Reads as group-reads
 
 abbrev Inv-loop : tie.InvT-loop
 Inv-loop w₀ m n row mark₀ joins₀ groups₀ k₀ w mark joins groups k = (length w ≡ length w₀) × (length mark ≡ length mark₀) × ((G : Graph) (o : InOrder G) (fits : size G ≤ noGroup) → LevelsPre G o fits m n w₀ row mark₀ → TreeAt G o fits m n k joins groups w)

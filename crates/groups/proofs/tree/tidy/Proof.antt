@@ -3,10 +3,6 @@ use Rattle.groups.specs.Whole.{tidied}
 use borrow.Author.Needs.{needs}
 use Rattle.groups.proofs.tree.tidy.Statement.{statement}
 use Rattle.groups.proofs.tree.tidy.Tie as tie
-use Rattle.groups.proofs.tree.tidy.Reads as reads
-use Rattle.groups.proofs.tree.tidy.Lts as lts
-use Rattle.columns.proofs.wipe_all.Reads as wipe-all-reads
-use Rattle.groups.proofs.tree.wipe_ends.Reads as wipe-ends-reads
 
 wipe-ends-requires : tie.Need-wipe-ends-requires
 wipe-ends-requires c κs = search needs

@@ -5,11 +5,6 @@ use native.Mathlib.Omega.{arith}
 use borrow.Author.Needs.{needs}
 use Rattle.groups.proofs.tree.tree.Statement.{statement}
 use Rattle.groups.proofs.tree.tree.Tie as tie
-use Rattle.groups.proofs.tree.tree.Reads as reads
-use Rattle.groups.proofs.tree.tree.Lts as lts
-use Rattle.groups.proofs.tree.room.Reads as room-reads
-use Rattle.groups.proofs.tree.tidy.Reads as tidy-reads
-use Rattle.groups.proofs.tree.work.Reads as work-reads
 
 room-requires : tie.Need-room-requires
 room-requires c κs = search needs

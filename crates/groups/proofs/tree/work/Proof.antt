@@ -3,11 +3,6 @@ use Rattle.groups.specs.Tree.{work-rows, work-levels, given-fits}
 use borrow.Author.Needs.{needs}
 use Rattle.groups.proofs.tree.work.Statement.{statement}
 use Rattle.groups.proofs.tree.work.Tie as tie
-use Rattle.groups.proofs.tree.work.Reads as reads
-use Rattle.groups.proofs.tree.work.Lts as lts
-use Rattle.forest.proofs.level.prepare.Reads as prepare-reads
-use Rattle.forest.proofs.rows.rows.Reads as rows-reads
-use Rattle.groups.proofs.tree.levels.Reads as levels-reads
 
 rows-requires : tie.Need-rows-requires
 rows-requires c κs = (c .before .before .before .before .before .pre .0, work-rows (c .before .before .before .before .before .pre .1))

@@ -1,46 +1,32 @@
+-- `holding::marks::hold_with` meets its contract. Assumes nothing.
 use native.Mathlib.Omega.{arith}
 use mathlib.Core.Path.{_∙_}
 use Rattle.holding.specs.Turns.{hold-few, hold-lift, hold-columns, hold-some, hold-mark, hold-gives}
 use borrow.Author.Needs.{needs}
 use Rattle.holding.proofs.marks.hold_with.Statement.{statement}
 use Rattle.holding.proofs.marks.hold_with.Tie as tie
-use Rattle.holding.proofs.marks.hold_with.Reads as reads
-use Rattle.holding.proofs.marks.hold_with.Lts as lts
-use Rattle.holding.proofs.marks.clear.Reads as clear-reads
-use Rattle.holding.proofs.marks.lift_all.Reads as lift-all-reads
-use Rattle.holding.proofs.marks.mark_links.Reads as mark-links-reads
-use Rattle.holding.proofs.marks.meet_all.Reads as meet-all-reads
-use Rattle.holding.proofs.ranks.rank_named.Reads as rank-named-reads
 
--- src/marks.rt:197:9
 rank-named-requires : tie.Need-rank-named-requires
 rank-named-requires c κs = (omega (arith, c .before .before .before .before .before .pre .1, hold-few (c .before .before .before .before .before .pre .0) .2), (hold-few (c .before .before .before .before .before .pre .0) .2, c .before .before .before .before .before .pre .0 .names))
 
--- src/marks.rt:198:5
 clear-requires : tie.Need-clear-requires
 clear-requires c κs = (c .before .before .before .before .before .before .before .before .before .pre .0 .size-is, (hold-columns (c .before .before .before .before .before .before .before .before .before .pre .0) (c .before .before .before .rank-named .ensures), (hold-few (c .before .before .before .before .before .before .before .before .before .pre .0) .0, hold-few (c .before .before .before .before .before .before .before .before .before .pre .0) .1)))
 
--- src/marks.rt:199:5
 mark-links-requires : tie.Need-mark-links-requires
 mark-links-requires c κs = (hold-mark (c .before .before .before .before .before .before .before .before .before .before .before .before .before .before .pre .0) (c .before .before .before .before .before .before .before .before .rank-named .ensures), c .before .before .before .before .clear .ensures)
 
--- src/marks.rt:200:5
 lift-all-requires : tie.Need-lift-all-requires
 lift-all-requires c κs = (hold-lift (c .before .before .before .before .before .before .before .before .before .before .before .before .before .before .before .before .before .before .pre .0), (c .before .before .before .mark-links .ensures .size-is, hold-columns (c .before .before .before .before .before .before .before .before .before .before .before .before .before .before .before .before .before .before .pre .0) (c .before .before .before .before .before .before .before .before .before .before .before .before .rank-named .ensures)))
 
--- src/marks.rt:201:5
 meet-all-requires : tie.Need-meet-all-requires
 meet-all-requires c κs = (c .before .before .before .lift-all .ensures .length-is ∙ c .before .before .before .before .before .before .before .mark-links .ensures .size-is, (hold-some (c .before .before .before .before .before .before .before .before .before .before .before .before .before .before .before .before .before .before .before .before .before .before .pre .0) (c .before .before .before .before .before .before .before .before .before .before .before .before .before .before .before .before .rank-named .ensures), (hold-columns (c .before .before .before .before .before .before .before .before .before .before .before .before .before .before .before .before .before .before .before .before .before .before .pre .0) (c .before .before .before .before .before .before .before .before .before .before .before .before .before .before .before .before .rank-named .ensures), (hold-few (c .before .before .before .before .before .before .before .before .before .before .before .before .before .before .before .before .before .before .before .before .before .before .pre .0) .0, hold-few (c .before .before .before .before .before .before .before .before .before .before .before .before .before .before .before .before .before .before .before .before .before .before .pre .0) .1))))
 
--- src/marks.rt:183:1
 same-length : tie.Need-same-length
 same-length c = search needs
 
--- src/marks.rt:183:1
 same-length-2 : tie.Need-same-length-2
 same-length-2 c = search needs
 
--- src/marks.rt:183:1
 returns : tie.Need-returns
 returns c = hold-gives (c .before .before .before .before .before .before .before .before .before .before .before .before .before .before .before .before .before .before .before .before .before .before .before .before .before .pre .0) (c .before .before .before .before .before .before .before .before .before .before .before .before .before .before .before .before .before .before .before .rank-named .ensures) (c .before .before .before .before .before .before .before .before .before .before .mark-links .ensures) (c .before .before .before .before .before .before .lift-all .ensures) (c .before .before .meet-all .ensures)
 

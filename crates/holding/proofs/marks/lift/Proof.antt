@@ -1,48 +1,35 @@
+-- `holding::marks::lift` meets its contract. Assumes nothing.
 use native.Mathlib.Omega.{arith}
 use Rattle.holding.specs.Turns.{lift-unmarked, lift-top, lift-marked, lift-parent}
 use Rattle.stored.specs.Rows.{sized-few}
 use borrow.Author.Needs.{needs}
 use Rattle.holding.proofs.marks.lift.Statement.{statement}
 use Rattle.holding.proofs.marks.lift.Tie as tie
-use Rattle.holding.proofs.marks.lift.Reads as reads
-use Rattle.holding.proofs.marks.lift.Lts as lts
-use Rattle.columns.proofs.get.Reads as get-reads
-use Rattle.columns.proofs.put.Reads as put-reads
-use Rattle.stored.proofs.rows.group_parent.Reads as group-parent-reads
 
--- src/marks.rt:99:8
 get-requires : tie.Need-get-requires
 get-requires c κs = (c .before .before .before .pre .1 .1 .0, (omega (arith, c .before .before .before .pre .1 .1 .1, sized-few (c .before .before .before .pre .0) .0), c .before .before .before .pre .1 .0))
 
--- src/marks.rt:100:9
 same-length : tie.Need-same-length
 same-length c = search needs
 
--- src/marks.rt:100:9
 returns : tie.Need-returns
 returns c = lift-unmarked (c .before .get .ensures .0) (c .if1 .taken)
 
--- src/marks.rt:102:9
 group-parent-requires : tie.Need-group-parent-requires
 group-parent-requires c κs = (c .before .before .before .before .before .pre .0 .groups-at, omega (arith, c .before .before .before .before .before .pre .1 .1 .1, c .before .before .before .before .before .pre .0 .groups))
 
--- src/marks.rt:104:9
 same-length-2 : tie.Need-same-length-2
 same-length-2 c = search needs
 
--- src/marks.rt:104:9
 returns-2 : tie.Need-returns-2
 returns-2 c = lift-top (c .before .group-parent .ensures) (c .if2 .taken)
 
--- src/marks.rt:106:5
 put-requires : tie.Need-put-requires
 put-requires c κs = (c .before .before .before .before .before .before .before .before .pre .1 .1 .0, (omega (arith, lift-parent (c .before .before .before .before .before .before .before .before .pre .0) (c .before .before .before .before .before .before .before .before .pre .1 .1 .1) (c .before .before .group-parent .ensures) (c .before .if2 .left), sized-few (c .before .before .before .before .before .before .before .before .pre .0) .0), (omega arith, c .before .before .before .before .before .before .before .before .pre .1 .0)))
 
--- src/marks.rt:92:1
 same-length-3 : tie.Need-same-length-3
 same-length-3 c = search needs
 
--- src/marks.rt:92:1
 returns-3 : tie.Need-returns-3
 returns-3 c = lift-marked (c .before .before .before .before .before .before .before .get .ensures .0) (c .before .before .before .before .before .before .if1 .left) (c .before .before .before .before .before .group-parent .ensures) (c .before .before .before .before .if2 .left) (c .before .before .put .ensures)
 

@@ -1,28 +1,21 @@
+-- `holding::marks::mark` meets its contract. Assumes nothing.
 use Rattle.holding.specs.Turns.{marked-none, marked-store}
 use borrow.Author.Needs.{needs}
 use Rattle.holding.proofs.marks.mark.Statement.{statement}
 use Rattle.holding.proofs.marks.mark.Tie as tie
-use Rattle.holding.proofs.marks.mark.Reads as reads
-use Rattle.holding.proofs.marks.mark.Lts as lts
-use Rattle.columns.proofs.put.Reads as put-reads
 
--- src/marks.rt:54:9
 returns : tie.Need-returns
 returns c = marked-none (c .if1 .taken)
 
--- src/marks.rt:56:15
 sub-put : tie.Need-sub-put
 sub-put c = search needs
 
--- src/marks.rt:56:5
 put-requires : tie.Need-put-requires
 put-requires c κs = search needs
 
--- src/marks.rt:47:1
 same-length : tie.Need-same-length
 same-length c = search needs
 
--- src/marks.rt:47:1
 returns-2 : tie.Need-returns-2
 returns-2 c = rw (c .before .before .put .ensures) (marked-store _ _ _ _ (c .before .before .before .before .if1 .left) (c .before .before .before .before .before .before .pre .1 .1) (c .before .before .before .before .before .before .pre .1 .0) (c .before .before .before .before .before .before .pre .0))
 

@@ -1,12 +1,10 @@
+-- `holding::marks::meet_column` meets its contract. Assumes nothing.
 use native.Mathlib.Omega.{arith}
 use mathlib.Core.Path.{_≡_, _∙_}
 use Prim.Native.Nat.{_-_, _≤_}
 use Rattle.holding.specs.Turns.{Meets, meets-none, meets-more}
 use Rattle.holding.proofs.marks.meet_column.Statement.{statement}
 use Rattle.holding.proofs.marks.meet_column.Tie as tie
-use Rattle.holding.proofs.marks.meet_column.Reads as reads
-use Rattle.holding.proofs.marks.meet_column.Lts as lts
-use Rattle.holding.proofs.marks.meet.Reads as meet-reads
 
 abbrev Inv-loop : tie.InvT-loop
 Inv-loop w₀ m count c g₀ w g = (g ≤ count) × Meets m c g w₀ w
@@ -14,31 +12,24 @@ Inv-loop w₀ m count c g₀ w g = (g ≤ count) × Meets m c g w₀ w
 abbrev μ-loop : tie.MeasureT-loop
 μ-loop w₀ m count c g₀ w g = count - g
 
--- src/marks.rt:160:5
 loop-holds : tie.Need-loop-holds Inv-loop μ-loop
 loop-holds c = (omega arith, meets-none _ _ _)
 
--- src/marks.rt:161:9
 meet-requires : tie.Need-meet-requires Inv-loop μ-loop
 meet-requires c κs = (c .before .before .loop .inv .1 .only .length-is ∙ c .before .before .before .before .pre .0, (c .before .before .before .before .pre .1 .1 .0, omega (arith, c .before .loop-test .taken, c .before .before .before .before .pre .1 .1 .1 .0)))
 
--- src/marks.rt:162:9
 add-g : tie.Need-add-g Inv-loop μ-loop
 add-g c = omega (arith, c .before .before .before .before .loop-test .taken, c .before .before .before .before .before .before .before .pre .1 .1 .1 .0, c .before .before .before .before .before .before .before .pre .1 .1 .1 .1)
 
--- src/marks.rt:160:5
 loop-less : tie.Need-loop-less Inv-loop μ-loop
 loop-less c = omega (arith, c .before .before .before .before .loop-test .taken)
 
--- src/marks.rt:160:5
 loop-again : tie.Need-loop-again Inv-loop μ-loop
 loop-again c = (omega (arith, c .before .before .before .before .loop-test .taken), meets-more (λ z. omega (arith, z, c .before .before .before .before .before .before .before .pre .1 .0)) (omega (arith, c .before .before .before .before .loop-test .taken, c .before .before .before .before .before .before .before .pre .1 .1 .1 .0)) (c .before .before .before .before .before .before .before .pre .0) (c .before .before .before .before .before .loop .inv .1) (c .before .before .meet .ensures))
 
--- src/marks.rt:151:1
 same-length : tie.Need-same-length Inv-loop μ-loop
 same-length c = c .before .loop .inv .1 .only .length-is
 
--- src/marks.rt:151:1
 returns : tie.Need-returns Inv-loop μ-loop
 returns c = let e : c .before .loop .g ≡ c .before .before .before .args .count = omega (arith, c .loop-test .left, c .before .loop .inv .0) in rw e at (c .before .loop .inv .1)
 

@@ -1,48 +1,37 @@
+-- `holding::ranks::rank_one` meets its contract. Assumes nothing.
 use mathlib.Core.Path.{refl}
 use Rattle.holding.specs.Turns.{ranked-again, ranked-new}
 use borrow.Author.Needs.{needs}
 use Rattle.holding.proofs.ranks.rank_one.Statement.{statement}
 use Rattle.holding.proofs.ranks.rank_one.Tie as tie
-use Rattle.holding.proofs.ranks.rank_one.Reads as reads
-use Rattle.holding.proofs.ranks.rank_one.Lts as lts
 
--- src/ranks.rt:29:8
 mul-if1 : tie.Need-mul-if1
 mul-if1 c = search needs
 
--- src/ranks.rt:29:8
 slice-read-if1 : tie.Need-slice-read-if1
 slice-read-if1 c = search needs
 
--- src/ranks.rt:30:9
 returns : tie.Need-returns
 returns c = ranked-again (c .if1 .taken)
 
--- src/ranks.rt:32:17
 add-ranks : tie.Need-add-ranks
 add-ranks c = search needs
 
--- src/ranks.rt:32:16
 cast-ranks : tie.Need-cast-ranks
 cast-ranks c = search needs
 
--- src/ranks.rt:32:5
 mul-ranks : tie.Need-mul-ranks
 mul-ranks c = search needs
 
--- src/ranks.rt:32:5
 slice-write-ranks : tie.Need-slice-write-ranks
 slice-write-ranks c = search needs
 
--- src/ranks.rt:33:5
 add-result : tie.Need-add-result
 add-result c = search needs
 
--- src/ranks.rt:23:1
 same-length : tie.Need-same-length
 same-length c = search needs
 
--- src/ranks.rt:23:1
 returns-2 : tie.Need-returns-2
 returns-2 c = ranked-new (c .if1 .left) refl
 

@@ -1,3 +1,4 @@
+-- `listing::counts::count_all` meets its contract. Assumes nothing.
 use native.Mathlib.Omega.{arith}
 use mathlib.Core.Path.{sym}
 use lib.Seq.{length-take-le}
@@ -5,48 +6,34 @@ use Rattle.listing.specs.Rows.{count-few}
 use borrow.Author.Needs.{needs}
 use Rattle.listing.proofs.counts.count_all.Statement.{statement}
 use Rattle.listing.proofs.counts.count_all.Tie as tie
-use Rattle.listing.proofs.counts.count_all.Reads as reads
-use Rattle.listing.proofs.counts.count_all.Lts as lts
-use Rattle.listing.proofs.counts.count_with.Reads as count-with-reads
-use Rattle.listing.proofs.counts.room.Reads as room-reads
 
--- src/counts.rt:152:21
 room-requires : tie.Need-room-requires
 room-requires c κs = search needs
 
--- src/counts.rt:153:20
 room-requires-2 : tie.Need-room-requires-2
 room-requires-2 c κs = search needs
 
--- src/counts.rt:154:52
 add-start : tie.Need-add-start
 add-start c = omega (arith, count-few (c .before .before .before .before .before .pre) .2)
 
--- src/counts.rt:154:39
 array-borrow-prefix-start : tie.Need-array-borrow-prefix-start
 array-borrow-prefix-start c = omega (arith, count-few (c .before .before .before .before .before .pre) .2)
 
--- src/counts.rt:154:39
 slice-aggregate-count-with : tie.Need-slice-aggregate-count-with
 slice-aggregate-count-with c = sym (length-take-le _ _ (omega (arith, count-few (c .before .before .before .before .before .before .pre) .2)))
 
--- src/counts.rt:154:60
 array-borrow-prefix-next : tie.Need-array-borrow-prefix-next
 array-borrow-prefix-next c = omega (arith, count-few (c .before .before .before .before .before .before .pre) .2)
 
--- src/counts.rt:154:60
 slice-aggregate-count-with-2 : tie.Need-slice-aggregate-count-with-2
 slice-aggregate-count-with-2 c = sym (length-take-le _ _ (omega (arith, count-few (c .before .before .before .before .before .before .before .pre) .2)))
 
--- src/counts.rt:154:5
 count-with-requires : tie.Need-count-with-requires
 count-with-requires c κs = ((c .before .before .before .before .before .before .before .pre), (length-take-le _ _ (omega (arith, count-few (c .before .before .before .before .before .before .before .pre) .2)), length-take-le _ _ (omega (arith, count-few (c .before .before .before .before .before .before .before .pre) .2))))
 
--- src/counts.rt:148:1
 same-length : tie.Need-same-length
 same-length c = search needs
 
--- src/counts.rt:148:1
 returns : tie.Need-returns
 returns c = search needs
 

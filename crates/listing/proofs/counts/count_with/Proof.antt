@@ -1,3 +1,4 @@
+-- `listing::counts::count_with` meets its contract. Assumes nothing.
 use native.Mathlib.Omega.{arith}
 use mathlib.Core.Path.{_∙_}
 use Rattle.stored.specs.Rows.{graphIn}
@@ -5,52 +6,34 @@ use Rattle.listing.specs.Rows.{count-few, keys-named, links-asks, accoun
 use borrow.Author.Needs.{needs}
 use Rattle.listing.proofs.counts.count_with.Statement.{statement}
 use Rattle.listing.proofs.counts.count_with.Tie as tie
-use Rattle.listing.proofs.counts.count_with.Reads as reads
-use Rattle.listing.proofs.counts.count_with.Lts as lts
-use Rattle.adjacency.proofs.lists.lists.Reads as lists-reads
-use Rattle.columns.proofs.wipe.Reads as wipe-reads
-use Rattle.columns.proofs.wipe_all.Reads as wipe-all-reads
-use Rattle.listing.proofs.counts.count_accounts.Reads as count-accounts-reads
-use Rattle.listing.proofs.counts.count_links.Reads as count-links-reads
-use Rattle.listing.proofs.counts.load_keys.Reads as load-keys-reads
 
--- src/counts.rt:134:5
 load-keys-requires : tie.Need-load-keys-requires
 load-keys-requires c κs = (c .before .before .before .before .before .pre .0 .shape .groups-at .is-index, (c .before .before .before .before .before .pre .0 .shape .links, c .before .before .before .before .before .pre .0 .size-is))
 
--- src/counts.rt:135:5
 lists-requires : tie.Need-lists-requires
 lists-requires c κs = ((graphIn (c .before .before .before .before .before .before .before .before .before .before .before .args .s .now), keys-named (c .before .before .before .before .before .before .before .before .before .before .before .pre .0) (c .before .before .before .before .before .load-keys .ensures)), (c .before .before .before .before .before .before .before .before .before .before .before .pre .1 .0, c .before .before .before .before .before .before .before .before .before .before .before .pre .1 .1))
 
--- src/counts.rt:136:5
 wipe-all-requires : tie.Need-wipe-all-requires
 wipe-all-requires c κs = let D = c .before .before .before .before .before .before .before .lists .ensures .0 (graphIn (c .before .before .before .before .before .before .before .before .before .before .before .before .before .before .before .before .before .before .before .args .s .now)) (keys-named (c .before .before .before .before .before .before .before .before .before .before .before .before .before .before .before .before .before .before .before .pre .0) (c .before .before .before .before .before .before .before .before .before .before .before .before .before .load-keys .ensures)) in (D .keyed .length-is ∙ c .before .before .before .before .before .before .before .before .before .before .before .before .before .load-keys .ensures .size-is, (omega arith, (omega arith, omega (arith, count-few (c .before .before .before .before .before .before .before .before .before .before .before .before .before .before .before .before .before .before .before .pre .0) .1))))
 
--- src/counts.rt:137:5
 count-links-requires : tie.Need-count-links-requires
 count-links-requires c κs = let D = c .before .before .before .before .before .before .before .before .before .before .before .lists .ensures .0 (graphIn (c .before .before .before .before .before .before .before .before .before .before .before .before .before .before .before .before .before .before .before .before .before .before .before .args .s .now)) (keys-named (c .before .before .before .before .before .before .before .before .before .before .before .before .before .before .before .before .before .before .before .before .before .before .before .pre .0) (c .before .before .before .before .before .before .before .before .before .before .before .before .before .before .before .before .before .load-keys .ensures)) in links-asks (c .before .before .before .before .before .before .before .before .before .before .before .before .before .before .before .before .before .before .before .before .before .before .before .pre .0) (D .keyed .length-is ∙ c .before .before .before .before .before .before .before .before .before .before .before .before .before .before .before .before .before .load-keys .ensures .size-is) (c .before .before .before .wipe-all .ensures)
 
--- src/counts.rt:138:5
 wipe-requires : tie.Need-wipe-requires
 wipe-requires c κs = (c .before .before .before .count-links .ensures .rounds .size-is, (omega arith, omega (arith, count-few (c .before .before .before .before .before .before .before .before .before .before .before .before .before .before .before .before .before .before .before .before .before .before .before .before .before .before .before .pre .0) .1)))
 
--- src/counts.rt:139:5
 count-accounts-requires : tie.Need-count-accounts-requires
 count-accounts-requires c κs = let D = c .before .before .before .before .before .before .before .before .before .before .before .before .before .before .before .before .before .before .before .before .lists .ensures .0 (graphIn (c .before .before .before .before .before .before .before .before .before .before .before .before .before .before .before .before .before .before .before .before .before .before .before .before .before .before .before .before .before .before .before .before .args .s .now)) (keys-named (c .before .before .before .before .before .before .before .before .before .before .before .before .before .before .before .before .before .before .before .before .before .before .before .before .before .before .before .before .before .before .before .before .pre .0) (c .before .before .before .before .before .before .before .before .before .before .before .before .before .before .before .before .before .before .before .before .before .before .before .before .before .before .load-keys .ensures)) in accounts-asks (c .before .before .before .before .before .before .before .before .before .before .before .before .before .before .before .before .before .before .before .before .before .before .before .before .before .before .before .before .before .before .before .before .pre .0) D (c .before .before .before .before .before .before .before .before .before .before .before .before .wipe-all .ensures) (c .before .before .before .before .before .before .before .before .count-links .ensures) (c .before .before .before .before .wipe .ensures)
 
--- src/counts.rt:128:1
 same-length : tie.Need-same-length
 same-length c = search needs
 
--- src/counts.rt:128:1
 same-length-2 : tie.Need-same-length-2
 same-length-2 c = search needs
 
--- src/counts.rt:128:1
 same-length-3 : tie.Need-same-length-3
 same-length-3 c = search needs
 
--- src/counts.rt:128:1
 returns : tie.Need-returns
 returns c = all-counted (c .before .before .before .before .before .before .before .before .before .before .before .before .before .before .before .before .before .before .before .before .before .before .before .before .before .before .before .before .before .before .before .before .before .before .before .pre .0) (c .before .before .before .before .before .before .before .before .before .before .before .count-links .ensures) (c .before .before .before .before .before .before .before .wipe .ensures) (c .before .before .count-accounts .ensures)
 

@@ -1,3 +1,4 @@
+-- `listing::rows::put_row` meets its contract. Assumes nothing.
 use native.Mathlib.Omega.{arith}
 use mathlib.Core.Path.{ap, _∙_}
 use mathlib.Core.List.{[], _∷_}
@@ -8,96 +9,67 @@ use Rattle.listing.specs.Rows.{row-in, row-room, least-in, parent-small,
 use borrow.Author.Needs.{needs}
 use Rattle.listing.proofs.rows.put_row.Statement.{statement}
 use Rattle.listing.proofs.rows.put_row.Tie as tie
-use Rattle.listing.proofs.rows.put_row.Reads as reads
-use Rattle.listing.proofs.rows.put_row.Lts as lts
-use Rattle.columns.proofs.get.Reads as get-reads
-use Rattle.stored.proofs.rows.group_least.Reads as group-least-reads
-use Rattle.stored.proofs.rows.group_parent.Reads as group-parent-reads
-use Rattle.stored.proofs.rows.group_strength.Reads as group-strength-reads
-use Rattle.stored.proofs.rows.link_higher.Reads as link-higher-reads
-use Rattle.stored.proofs.rows.link_lower.Reads as link-lower-reads
 
--- src/rows.rt:28:9
 group-least-requires : tie.Need-group-least-requires
 group-least-requires c κs = (c .before .before .before .pre .0 .all .sized .groups-at, row-in (c .before .before .before .pre .0))
 
--- src/rows.rt:29:14
 group-strength-requires : tie.Need-group-strength-requires
 group-strength-requires c κs = (c .before .before .before .before .pre .0 .all .sized .groups-at, row-in (c .before .before .before .before .pre .0))
 
--- src/rows.rt:29:14
 cast-out : tie.Need-cast-out
 cast-out c = search needs
 
--- src/rows.rt:29:5
 slice-write-out : tie.Need-slice-write-out
 slice-write-out c = search needs
 
--- src/rows.rt:30:14
 group-parent-requires : tie.Need-group-parent-requires
 group-parent-requires c κs = (c .before .before .before .before .before .pre .0 .all .sized .groups-at, row-in (c .before .before .before .before .before .pre .0))
 
--- src/rows.rt:30:14
 cast-out-2 : tie.Need-cast-out-2
 cast-out-2 c = omega (arith, parent-small (c .before .before .before .before .before .before .pre .0) (c .group-parent .ensures))
 
--- src/rows.rt:30:5
 slice-write-out-2 : tie.Need-slice-write-out-2
 slice-write-out-2 c = simp length-set (omega (arith, c .before .before .before .before .before .before .pre .1))
 
--- src/rows.rt:31:14
 get-requires : tie.Need-get-requires
 get-requires c κs = (omega arith, (row-room (c .before .before .before .before .before .before .pre .0), c .before .before .before .before .before .before .pre .0 .all .counted .size-is))
 
--- src/rows.rt:31:14
 cast-out-3 : tie.Need-cast-out-3
 cast-out-3 c = search needs
 
--- src/rows.rt:31:5
 slice-write-out-3 : tie.Need-slice-write-out-3
 slice-write-out-3 c = simp length-set (omega (arith, c .before .before .before .before .before .before .before .pre .1))
 
--- src/rows.rt:32:14
 get-requires-2 : tie.Need-get-requires-2
 get-requires-2 c κs = (omega arith, (row-room (c .before .before .before .before .before .before .before .pre .0), c .before .before .before .before .before .before .before .pre .0 .all .counted .size-is))
 
--- src/rows.rt:32:14
 cast-out-4 : tie.Need-cast-out-4
 cast-out-4 c = search needs
 
--- src/rows.rt:32:5
 slice-write-out-4 : tie.Need-slice-write-out-4
 slice-write-out-4 c = simp length-set (omega (arith, c .before .before .before .before .before .before .before .before .pre .1))
 
--- src/rows.rt:33:14
 link-lower-requires : tie.Need-link-lower-requires
 link-lower-requires c κs = (c .before .before .before .before .before .before .before .before .pre .0 .all .sized .groups-at .is-index, least-in (c .before .before .before .before .before .before .before .before .pre .0) (c .before .before .before .before .group-least .ensures))
 
--- src/rows.rt:33:14
 cast-out-5 : tie.Need-cast-out-5
 cast-out-5 c = omega (arith, c .link-lower .ensures, key-small (c .before .before .before .before .before .before .before .before .before .pre .0 .all .sized .groups-at .is-index) (c .before .before .before .before .before .group-least .result) (least-in (c .before .before .before .before .before .before .before .before .before .pre .0) (c .before .before .before .before .before .group-least .ensures)) .0)
 
--- src/rows.rt:33:5
 slice-write-out-5 : tie.Need-slice-write-out-5
 slice-write-out-5 c = simp length-set (omega (arith, c .before .before .before .before .before .before .before .before .before .pre .1))
 
--- src/rows.rt:34:14
 link-higher-requires : tie.Need-link-higher-requires
 link-higher-requires c κs = (c .before .before .before .before .before .before .before .before .before .pre .0 .all .sized .groups-at .is-index, least-in (c .before .before .before .before .before .before .before .before .before .pre .0) (c .before .before .before .before .before .group-least .ensures))
 
--- src/rows.rt:34:14
 cast-out-6 : tie.Need-cast-out-6
 cast-out-6 c = omega (arith, c .link-higher .ensures, key-small (c .before .before .before .before .before .before .before .before .before .before .pre .0 .all .sized .groups-at .is-index) (c .before .before .before .before .before .before .group-least .result) (least-in (c .before .before .before .before .before .before .before .before .before .before .pre .0) (c .before .before .before .before .before .before .group-least .ensures)) .1)
 
--- src/rows.rt:34:5
 slice-write-out-6 : tie.Need-slice-write-out-6
 slice-write-out-6 c = simp length-set (omega (arith, c .before .before .before .before .before .before .before .before .before .before .pre .1))
 
--- src/rows.rt:23:1
 same-length : tie.Need-same-length
 same-length c = search needs
 
--- src/rows.rt:23:1
 returns : tie.Need-returns
 unfolding written
 returns c = sets-eq (c .before .before .before .before .before .group-strength .result ∷ c .before .before .before .before .group-parent .result ∷ c .before .before .before .get .result ∷ c .before .before .get2 .result ∷ c .before .link-lower .result ∷ c .link-higher .result ∷ []) (c .before .before .before .before .before .before .before .before .before .before .args .out .now) 0 (c .before .before .before .before .before .before .before .before .before .before .pre .1) ∙ ap (written (c .before .before .before .before .before .before .before .before .before .before .args .out .now) 0) (row-is (c .before .before .before .before .before .before .before .before .before .before .pre .0) (c .before .before .before .before .before .group-strength .ensures .0) (c .before .before .before .before .group-parent .ensures) (c .before .before .before .get .ensures .0) (c .before .before .get2 .ensures .0) (c .before .before .before .before .before .before .group-least .ensures) (c .before .link-lower .ensures) (c .link-higher .ensures))

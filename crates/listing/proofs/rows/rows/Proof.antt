@@ -1,3 +1,4 @@
+-- `listing::rows::rows` meets its contract. Assumes nothing.
 use mathlib.Core.Path.{sym, ap, _∙_}
 use native.Mathlib.Omega.{arith}
 use lib.Seq.{length-take-le}
@@ -8,63 +9,45 @@ use Rattle.listing.specs.Rows.{rows-7}
 use borrow.Author.Needs.{needs}
 use Rattle.listing.proofs.rows.rows.Statement.{statement}
 use Rattle.listing.proofs.rows.rows.Tie as tie
-use Rattle.listing.proofs.rows.rows.Reads as reads
-use Rattle.listing.proofs.rows.rows.Lts as lts
-use Rattle.index.proofs.answered.Reads as answered-reads
-use Rattle.listing.proofs.rows.room.Reads as room-reads
-use Rattle.linksfile.proofs.read_head.Reads as read-head-reads
-use Rattle.listing.proofs.rows.rows_in.Reads as rows-in-reads
 
--- src/rows.rt:76:11
 read-head-requires : tie.Need-read-head-requires
 read-head-requires c κs = search needs
 
--- src/rows.rt:77:33
 enum-told : tie.Need-enum-told
 enum-told c = search needs
 
--- src/rows.rt:77:33
 answered-requires : tie.Need-answered-requires
 answered-requires c κs = search needs
 
--- src/rows.rt:78:26
 enum-known-n : tie.Need-enum-known-n
 enum-known-n c = search needs
 
--- src/rows.rt:79:28
 room-requires : tie.Need-room-requires
 room-requires c κs = search needs
 
--- src/rows.rt:80:24
 mul-size : tie.Need-mul-size
 unfolding headOf
 mul-size c = omega (arith, few-of _ _ _ (sym (c .before .before .before .before .read-head .ensures) ∙ ap headOf (c .before .before .n .given .1)))
 
--- src/rows.rt:81:33
 array-borrow-prefix-work : tie.Need-array-borrow-prefix-work
 unfolding headOf
 array-borrow-prefix-work c = omega (arith, few-of _ _ _ (sym (c .before .before .before .before .before .read-head .ensures) ∙ ap headOf (c .before .before .before .n .given .1)))
 
--- src/rows.rt:81:33
 slice-aggregate-rows-in : tie.Need-slice-aggregate-rows-in
 unfolding headOf
 slice-aggregate-rows-in c = sym (length-take-le _ _ (omega (arith, few-of _ _ _ (sym (c .before .before .before .before .before .before .read-head .ensures) ∙ ap headOf (c .before .before .before .before .n .given .1)))))
 
--- src/rows.rt:81:13
 rows-in-requires : tie.Need-rows-in-requires
 unfolding headOf
 rows-in-requires c κs = let h = sym (c .before .before .before .before .before .before .read-head .ensures) ∙ ap headOf (c .before .before .before .before .n .given .1) in record { head = h; size = length-take-le _ _ (omega (arith, few-of _ _ _ h)) }
 
--- src/rows.rt:73:1
 returns : tie.Need-returns
 unfolding headOf
 returns c = rows-7 (c .before .before .before .before .before .before .args .index .now) (c .before .before .before .before .before .before .args .out .now) (no-head (c .before .before .before .before .before .before .args .index .now) _ (sym (ap headOf (c .before .enum-told .given .1)) ∙ c .before .before .before .read-head .ensures)) (c .answered .ensures)
 
--- src/rows.rt:73:1
 same-length : tie.Need-same-length
 same-length c = search needs
 
--- src/rows.rt:73:1
 returns-2 : tie.Need-returns-2
 returns-2 c = search needs
 

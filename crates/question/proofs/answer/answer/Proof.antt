@@ -1,3 +1,4 @@
+-- `question::answer::answer` meets its contract. Assumes nothing.
 use mathlib.Core.Path.{sym, ap, _∙_}
 use native.Mathlib.Omega.{arith}
 use lib.Seq.{length-take-le}
@@ -9,63 +10,45 @@ use Rattle.question.specs.Desk.{questionOf}
 use borrow.Author.Needs.{needs}
 use Rattle.question.proofs.answer.answer.Statement.{statement}
 use Rattle.question.proofs.answer.answer.Tie as tie
-use Rattle.question.proofs.answer.answer.Reads as reads
-use Rattle.question.proofs.answer.answer.Lts as lts
-use Rattle.index.proofs.answered.Reads as answered-reads
-use Rattle.question.proofs.answer.room.Reads as room-reads
-use Rattle.linksfile.proofs.read_head.Reads as read-head-reads
-use Rattle.question.proofs.answer.answer_in.Reads as answer-in-reads
 
--- src/answer.rt:107:11
 read-head-requires : tie.Need-read-head-requires
 read-head-requires c κs = search needs
 
--- src/answer.rt:108:33
 enum-told : tie.Need-enum-told
 enum-told c = search needs
 
--- src/answer.rt:108:33
 answered-requires : tie.Need-answered-requires
 answered-requires c κs = search needs
 
--- src/answer.rt:109:26
 enum-known-n : tie.Need-enum-known-n
 enum-known-n c = search needs
 
--- src/answer.rt:110:28
 room-requires : tie.Need-room-requires
 room-requires c κs = search needs
 
--- src/answer.rt:111:24
 mul-size : tie.Need-mul-size
 unfolding headOf
 mul-size c = omega (arith, few-of _ _ _ (sym (c .before .before .before .before .read-head .ensures) ∙ ap headOf (c .before .before .n .given .1)))
 
--- src/answer.rt:112:45
 array-borrow-prefix-work : tie.Need-array-borrow-prefix-work
 unfolding headOf
 array-borrow-prefix-work c = omega (arith, few-of _ _ _ (sym (c .before .before .before .before .before .read-head .ensures) ∙ ap headOf (c .before .before .before .n .given .1)))
 
--- src/answer.rt:112:45
 slice-aggregate-answer-in : tie.Need-slice-aggregate-answer-in
 unfolding headOf
 slice-aggregate-answer-in c = sym (length-take-le _ _ (omega (arith, few-of _ _ _ (sym (c .before .before .before .before .before .before .read-head .ensures) ∙ ap headOf (c .before .before .before .before .n .given .1)))))
 
--- src/answer.rt:112:13
 answer-in-requires : tie.Need-answer-in-requires
 unfolding headOf
 answer-in-requires c κs = let h = sym (c .before .before .before .before .before .before .read-head .ensures) ∙ ap headOf (c .before .before .before .before .n .given .1) in record { head = h; size = length-take-le _ _ (omega (arith, few-of _ _ _ h)) }
 
--- src/answer.rt:104:1
 returns : tie.Need-returns
 unfolding headOf
 returns c = asked-7 (c .before .before .before .before .before .before .before .args .index .now) (questionOf (c .before .before .before .before .before .before .before .args .q) (c .before .before .before .before .before .before .before .args .named .now)) (c .before .before .before .before .before .before .before .args .out .now) (no-head (c .before .before .before .before .before .before .before .args .index .now) _ (sym (ap headOf (c .before .enum-told .given .1)) ∙ c .before .before .before .read-head .ensures)) (c .answered .ensures)
 
--- src/answer.rt:104:1
 same-length : tie.Need-same-length
 same-length c = search needs
 
--- src/answer.rt:104:1
 returns-2 : tie.Need-returns-2
 returns-2 c = search needs
 

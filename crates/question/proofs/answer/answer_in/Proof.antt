@@ -1,3 +1,4 @@
+-- `question::answer::answer_in` meets its contract. Assumes nothing.
 use native.Mathlib.Omega.{arith}
 use Rattle.index.specs.Read.{opened-is, not-opened}
 use Rattle.stored.specs.Rows.{graphIn, opened-shape, opened-graph}
@@ -7,65 +8,46 @@ use Rattle.question.specs.Desk.{questionOf}
 use borrow.Author.Needs.{needs}
 use Rattle.question.proofs.answer.answer_in.Statement.{statement}
 use Rattle.question.proofs.answer.answer_in.Tie as tie
-use Rattle.question.proofs.answer.answer_in.Reads as reads
-use Rattle.question.proofs.answer.answer_in.Lts as lts
-use Rattle.index.proofs.answered.Reads as answered-reads
-use Rattle.index.proofs.open_in.Reads as open-in-reads
-use Rattle.question.proofs.answer.answer_of.Reads as answer-of-reads
 
--- src/answer.rt:93:11
 open-in-requires : tie.Need-open-in-requires
 open-in-requires c κs = search needs
 
--- src/answer.rt:94:29
 enum-told : tie.Need-enum-told
 enum-told c = search needs
 
--- src/answer.rt:94:29
 answered-requires : tie.Need-answered-requires
 answered-requires c κs = search needs
 
--- src/answer.rt:95:26
 enum-known-joins : tie.Need-enum-known-joins
 enum-known-joins c = search needs
 
--- src/answer.rt:96:26
 mul-at : tie.Need-mul-at
 mul-at c = search needs
 
--- src/answer.rt:96:22
 add-at : tie.Need-add-at
 add-at c = search needs
 
--- src/answer.rt:96:34
 mul-at-2 : tie.Need-mul-at-2
 mul-at-2 c = omega (arith, opened-place (opened-is (c .before .before .before .before .before .open-in .ensures) (c .before .joins .given .1)))
 
--- src/answer.rt:96:22
 add-at-2 : tie.Need-add-at-2
 add-at-2 c = omega (arith, opened-place (opened-is (c .before .before .before .before .before .open-in .ensures) (c .before .joins .given .1)))
 
--- src/answer.rt:97:13
 answer-of-requires : tie.Need-answer-of-requires
 answer-of-requires c κs = (opened-shape (opened-is (c .before .before .before .before .before .before .before .open-in .ensures) (c .before .before .before .joins .given .1)), c .before .before .before .before .before .before .before .open-in .ensures .size)
 
--- src/answer.rt:81:1
 same-length : tie.Need-same-length
 same-length c = search needs
 
--- src/answer.rt:81:1
 returns : tie.Need-returns
 returns c = asked-7 (c .before .before .before .before .before .before .before .before .before .before .before .args .index .now) (questionOf (c .before .before .before .before .before .before .before .before .before .before .before .args .q) (c .before .before .before .before .before .before .before .before .before .before .before .args .named .now)) (c .before .before .before .before .before .before .before .before .before .before .before .args .out .now) (not-opened (c .before .before .before .before .before .open-in .ensures) (c .before .enum-told .given .1)) (c .answered .ensures)
 
--- src/answer.rt:81:1
 same-length-2 : tie.Need-same-length-2
 same-length-2 c = search needs
 
--- src/answer.rt:81:1
 same-length-3 : tie.Need-same-length-3
 same-length-3 c = search needs
 
--- src/answer.rt:81:1
 returns-2 : tie.Need-returns-2
 returns-2 c = asked-of (c .before .before .before .before .before .before .before .before .before .before .before .before .before .before .before .before .before .before .args .index .now) (questionOf (c .before .before .before .before .before .before .before .before .before .before .before .before .before .before .before .before .before .before .args .q) (c .before .before .before .before .before .before .before .before .before .before .before .before .before .before .before .before .before .before .args .named .now)) (c .before .before .before .before .before .before .before .before .before .before .before .before .before .before .before .before .before .before .args .out .now) (graphIn (c .before .before .before .before .before .before .before .before .before .before .before .before .before .before .before .before .before .before .args .index .now)) (opened-graph (opened-is (c .before .before .before .before .before .before .before .before .before .before .before .before .open-in .ensures) (c .before .before .before .before .before .before .before .before .joins .given .1))) (c .before .before .before .before .answer-of .ensures)
 

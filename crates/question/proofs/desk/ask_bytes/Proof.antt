@@ -1,3 +1,4 @@
+-- `question::desk::ask_bytes` meets its contract. Assumes nothing.
 use mathlib.Core.Path.{ap, _∙_}
 use Rattle.wire.specs.Writing.{written}
 use Rattle.question.specs.Desk.{questionOf}
@@ -5,68 +6,46 @@ use Rattle.question.specs.DeskBytes.{desk-stays, desk-moves}
 use borrow.Author.Needs.{needs}
 use Rattle.question.proofs.desk.ask_bytes.Statement.{statement}
 use Rattle.question.proofs.desk.ask_bytes.Tie as tie
-use Rattle.question.proofs.desk.ask_bytes.Reads as reads
-use Rattle.question.proofs.desk.ask_bytes.Lts as lts
-use Rattle.question.proofs.answer.answer.Reads as answer-reads
-use Rattle.question.proofs.desk.ask_without_desk.Reads as ask-without-desk-reads
-use Rattle.question.proofs.desk.desk_after.Reads as desk-after-reads
-use Rattle.question.proofs.desk.tally_of.Reads as tally-of-reads
-use Rattle.question.proofs.desk.tally_record.Reads as tally-record-reads
-use Rattle.wire.proofs.paste.Reads as paste-reads
 
--- src/desk.rt:76:9
 ask-without-desk-requires : tie.Need-ask-without-desk-requires
 ask-without-desk-requires c κs = search needs
 
--- src/desk.rt:76:9
 same-length : tie.Need-same-length
 same-length c = search needs
 
--- src/desk.rt:76:9
 returns : tie.Need-returns
 returns c = c .before .before .ask-without-desk .ensures (c .before .before .before .before .before .before .before .before .before .args .desk .now) (c .before .before .before .before .if1 .taken)
 
--- src/desk.rt:78:9
 answer-requires : tie.Need-answer-requires
 answer-requires c κs = search needs
 
--- src/desk.rt:80:9
 same-length-2 : tie.Need-same-length-2
 same-length-2 c = search needs
 
--- src/desk.rt:80:9
 returns-2 : tie.Need-returns-2
 returns-2 c = desk-stays (c .before .before .before .before .before .before .before .before .before .before .before .args .index .now) (questionOf (c .before .before .before .before .before .before .before .before .before .before .before .args .q) (c .before .before .before .before .before .before .before .before .before .before .before .args .named .now)) (c .before .before .before .before .before .before .before .before .before .before .before .args .out .now) (c .before .before .before .before .before .before .before .before .before .before .before .args .desk .now) (c .before .before .before .before .before .before .if1 .left) (c .before .before .before .before .answer .ensures) (c .if2 .taken)
 
--- src/desk.rt:82:9
 tally-of-requires : tie.Need-tally-of-requires
 tally-of-requires c κs = search needs
 
--- src/desk.rt:83:9
 desk-after-requires : tie.Need-desk-after-requires
 desk-after-requires c κs = search needs
 
--- src/desk.rt:84:15
 tally-record-requires : tie.Need-tally-record-requires
 tally-record-requires c κs = search needs
 
--- src/desk.rt:85:17
 slice-aggregate-paste : tie.Need-slice-aggregate-paste
 slice-aggregate-paste c = search needs
 
--- src/desk.rt:85:5
 paste-requires : tie.Need-paste-requires
 paste-requires c κs = search needs
 
--- src/desk.rt:72:1
 same-length-3 : tie.Need-same-length-3
 same-length-3 c = search needs
 
--- src/desk.rt:72:1
 same-length-4 : tie.Need-same-length-4
 same-length-4 c = search needs
 
--- src/desk.rt:72:1
 returns-3 : tie.Need-returns-3
 returns-3 c = desk-moves (c .before .before .before .before .before .before .before .before .before .before .before .before .before .before .before .before .before .before .before .before .args .index .now) (questionOf (c .before .before .before .before .before .before .before .before .before .before .before .before .before .before .before .before .before .before .before .before .args .q) (c .before .before .before .before .before .before .before .before .before .before .before .before .before .before .before .before .before .before .before .before .args .named .now)) (c .before .before .before .before .before .before .before .before .before .before .before .before .before .before .before .before .before .before .before .before .args .out .now) (c .before .before .before .before .before .before .before .before .before .before .before .before .before .before .before .before .before .before .before .before .args .desk .now) (c .before .before .before .before .before .before .before .before .before .before .before .before .before .before .before .if1 .left) (c .before .before .before .before .before .before .before .before .before .before .before .before .before .answer .ensures) (c .before .before .before .before .before .before .before .before .before .if2 .left) (c .before .before .before .before .before .before .before .tally-of .ensures) (c .before .before .before .before .before .before .desk-after .ensures) (c .before .before .paste .ensures ∙ ap (written (c .before .before .before .before .before .before .before .before .before .before .before .before .before .before .before .before .before .before .before .before .args .desk .now) 0) (c .before .before .before .before .before .tally-record .ensures))
 

@@ -1,34 +1,26 @@
+-- `question::desk::ask_number` meets its contract. Assumes nothing.
 use mathlib.Core.List.{[]}
 use Rattle.question.specs.Desk.{questionOf}
 use Rattle.question.specs.DeskBytes.{nothing-back}
 use borrow.Author.Needs.{needs}
 use Rattle.question.proofs.desk.ask_number.Statement.{statement}
 use Rattle.question.proofs.desk.ask_number.Tie as tie
-use Rattle.question.proofs.desk.ask_number.Reads as reads
-use Rattle.question.proofs.desk.ask_number.Lts as lts
-use Rattle.question.proofs.desk.ask_bytes.Reads as ask-bytes-reads
 
--- src/desk.rt:95:22
 slice-aggregate-ask-bytes : tie.Need-slice-aggregate-ask-bytes
 slice-aggregate-ask-bytes c = search needs
 
--- src/desk.rt:95:35
 array-borrow-prefix-none : tie.Need-array-borrow-prefix-none
 array-borrow-prefix-none c = search needs
 
--- src/desk.rt:95:35
 slice-aggregate-ask-bytes-2 : tie.Need-slice-aggregate-ask-bytes-2
 slice-aggregate-ask-bytes-2 c = search needs
 
--- src/desk.rt:95:5
 ask-bytes-requires : tie.Need-ask-bytes-requires
 ask-bytes-requires c κs = search needs
 
--- src/desk.rt:91:1
 same-length : tie.Need-same-length
 same-length c = search needs
 
--- src/desk.rt:91:1
 returns : tie.Need-returns
 returns c = nothing-back (c .before .before .before .before .before .before .before .before .before .args .index .now) (questionOf (c .before .before .before .before .before .before .before .before .before .args .q) []) (c .before .before .before .before .before .before .before .before .before .args .desk .now) (c .before .before .before .ask-bytes .last .1 .1 .0) (c .before .before .none2 .given) (c .before .before .before .ask-bytes .ensures)
 

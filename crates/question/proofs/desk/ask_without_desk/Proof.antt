@@ -1,3 +1,4 @@
+-- `question::desk::ask_without_desk` meets its contract. Assumes nothing.
 use mathlib.Core.Path.{sym, subst}
 use mathlib.Core.List.{List}
 use Prim.Native.Nat.{ℕ}
@@ -6,40 +7,28 @@ use Rattle.question.specs.DeskBytes.{AskBytesGives, short-refused, short
 use borrow.Author.Needs.{needs}
 use Rattle.question.proofs.desk.ask_without_desk.Statement.{statement}
 use Rattle.question.proofs.desk.ask_without_desk.Tie as tie
-use Rattle.question.proofs.desk.ask_without_desk.Reads as reads
-use Rattle.question.proofs.desk.ask_without_desk.Lts as lts
-use Rattle.index.proofs.answered.Reads as answered-reads
-use Rattle.question.proofs.answer.answer.Reads as answer-reads
 
--- src/desk.rt:64:34
 slice-relend-prefix-answer : tie.Need-slice-relend-prefix-answer
 slice-relend-prefix-answer c = search needs
 
--- src/desk.rt:64:34
 slice-aggregate-answer : tie.Need-slice-aggregate-answer
 slice-aggregate-answer c = search needs
 
--- src/desk.rt:64:9
 answer-requires : tie.Need-answer-requires
 answer-requires c κs = search needs
 
--- src/desk.rt:66:9
 same-length : tie.Need-same-length
 same-length c = search needs
 
--- src/desk.rt:66:9
 returns : tie.Need-returns
 returns c = λ desk l. subst (λ (o : List ℕ). AskBytesGives (c .before .before .before .before .before .before .before .before .before .args .index .now) (questionOf (c .before .before .before .before .before .before .before .before .before .args .q) (c .before .before .before .before .before .before .before .before .before .args .named .now)) (c .before .before .before .before .before .before .before .before .before .args .out .now) desk (c .before .before .before .before .answer .result) o desk) (sym (nil-front (c .before .before .before .before .answer .last .1 .1 .0) (c .before .before .before .before .before .before .before .before .before .args .out .now) (c .before .before .before .out .given .0))) (short-refused (c .before .before .before .before .before .before .before .before .before .args .index .now) (questionOf (c .before .before .before .before .before .before .before .before .before .args .q) (c .before .before .before .before .before .before .before .before .before .args .named .now)) (c .before .before .before .before .before .before .before .before .before .args .out .now) desk l (c .before .before .before .before .answer .ensures) (c .if1 .taken))
 
--- src/desk.rt:68:5
 answered-requires : tie.Need-answered-requires
 answered-requires c κs = search needs
 
--- src/desk.rt:61:1
 same-length-2 : tie.Need-same-length-2
 same-length-2 c = search needs
 
--- src/desk.rt:61:1
 returns-2 : tie.Need-returns-2
 returns-2 c = λ desk l. subst (λ (o : List ℕ). AskBytesGives (c .before .before .before .before .before .before .before .before .before .before .args .index .now) (questionOf (c .before .before .before .before .before .before .before .before .before .before .args .q) (c .before .before .before .before .before .before .before .before .before .before .args .named .now)) (c .before .before .before .before .before .before .before .before .before .before .args .out .now) desk (c .answered .result) o desk) (sym (nil-front (c .before .before .before .before .before .answer .last .1 .1 .0) (c .before .before .before .before .before .before .before .before .before .before .args .out .now) (c .before .before .before .before .out .given .0))) (short-12 (c .before .before .before .before .before .before .before .before .before .before .args .index .now) (questionOf (c .before .before .before .before .before .before .before .before .before .before .args .q) (c .before .before .before .before .before .before .before .before .before .before .args .named .now)) (c .before .before .before .before .before .before .before .before .before .before .args .out .now) desk l (c .before .before .before .before .before .answer .ensures) (c .before .if1 .left) (c .answered .ensures))
 

@@ -1,3 +1,4 @@
+-- `question::links::group_links` meets its contract. Assumes nothing.
 use native.Mathlib.Omega.{arith}
 use mathlib.Core.Path.{ap, _∙_}
 use Rattle.truss.specs.Graph.{link}
@@ -9,79 +10,55 @@ use Rattle.question.specs.Links.{F-first, F-second, F-level, F-none, F-i
 use borrow.Author.Needs.{needs}
 use Rattle.question.proofs.links.group_links.Statement.{statement}
 use Rattle.question.proofs.links.group_links.Tie as tie
-use Rattle.question.proofs.links.group_links.Reads as reads
-use Rattle.question.proofs.links.group_links.Lts as lts
-use Rattle.index.proofs.answered.Reads as answered-reads
-use Rattle.question.proofs.links.mark_members.Reads as mark-members-reads
-use Rattle.question.proofs.lists.give.Reads as give-reads
-use Rattle.stored.proofs.climb.group_at.Reads as group-at-reads
-use Rattle.stored.proofs.find.find_link.Reads as find-link-reads
 
--- src/links.rt:173:9
 answered-requires : tie.Need-answered-requires
 answered-requires c κs = search needs
 
--- src/links.rt:173:9
 returns : tie.Need-returns
 returns c = answer-refused (graphIn (c .before .before .before .before .before .args .s .now)) (ask-links (c .before .before .before .before .before .args .k) (c .before .before .before .before .before .args .a) (c .before .before .before .before .before .args .b)) (c .before .before .before .before .before .args .out .now) (F-first (graphIn (c .before .before .before .before .before .args .s .now)) (c .before .before .before .before .before .pre .0 .accounts) (c .before .before .before .before .before .args .a) (c .before .before .before .before .before .args .b) (c .before .before .before .before .before .args .k) (c .before .if1 .taken)) (c .answered .ensures)
 
--- src/links.rt:176:9
 answered-requires-2 : tie.Need-answered-requires-2
 answered-requires-2 c κs = search needs
 
--- src/links.rt:176:9
 returns-2 : tie.Need-returns-2
 returns-2 c = answer-refused (graphIn (c .before .before .before .before .before .before .args .s .now)) (ask-links (c .before .before .before .before .before .before .args .k) (c .before .before .before .before .before .before .args .a) (c .before .before .before .before .before .before .args .b)) (c .before .before .before .before .before .before .args .out .now) (F-second (graphIn (c .before .before .before .before .before .before .args .s .now)) (c .before .before .before .before .before .before .pre .0 .accounts) (c .before .before .before .before .before .before .args .a) (c .before .before .before .before .before .before .args .b) (c .before .before .before .before .before .before .args .k) (c .before .before .if1 .left) (c .before .if2 .taken)) (c .answered2 .ensures)
 
--- src/links.rt:179:9
 answered-requires-3 : tie.Need-answered-requires-3
 answered-requires-3 c κs = search needs
 
--- src/links.rt:179:9
 returns-3 : tie.Need-returns-3
 returns-3 c = answer-refused (graphIn (c .before .before .before .before .before .before .before .args .s .now)) (ask-links (c .before .before .before .before .before .before .before .args .k) (c .before .before .before .before .before .before .before .args .a) (c .before .before .before .before .before .before .before .args .b)) (c .before .before .before .before .before .before .before .args .out .now) (F-level (graphIn (c .before .before .before .before .before .before .before .args .s .now)) (c .before .before .before .before .before .before .before .pre .0 .accounts) (c .before .before .before .before .before .before .before .args .a) (c .before .before .before .before .before .before .before .args .b) (c .before .before .before .before .before .before .before .args .k) (c .before .before .before .if1 .left) (c .before .before .if2 .left) (level-low (c .before .before .before .before .before .before .before .args .k) (c .before .if3 .taken))) (c .answered3 .ensures)
 
--- src/links.rt:182:9
 answered-requires-4 : tie.Need-answered-requires-4
 answered-requires-4 c κs = search needs
 
--- src/links.rt:182:9
 returns-4 : tie.Need-returns-4
 returns-4 c = answer-refused (graphIn (c .before .before .before .before .before .before .before .before .args .s .now)) (ask-links (c .before .before .before .before .before .before .before .before .args .k) (c .before .before .before .before .before .before .before .before .args .a) (c .before .before .before .before .before .before .before .before .args .b)) (c .before .before .before .before .before .before .before .before .args .out .now) (F-level (graphIn (c .before .before .before .before .before .before .before .before .args .s .now)) (c .before .before .before .before .before .before .before .before .pre .0 .accounts) (c .before .before .before .before .before .before .before .before .args .a) (c .before .before .before .before .before .before .before .before .args .b) (c .before .before .before .before .before .before .before .before .args .k) (c .before .before .before .before .if1 .left) (c .before .before .before .if2 .left) (level-high (c .before .before .before .before .before .before .before .before .args .k) (c .before .before .if3 .left) (c .before .if4 .taken))) (c .answered4 .ensures)
 
--- src/links.rt:184:9
 find-link-requires : tie.Need-find-link-requires
 find-link-requires c κs = (c .before .before .before .before .before .before .before .pre .0 .groups-at .is-index, c .before .before .before .before .before .before .before .pre .0 .links)
 
--- src/links.rt:186:9
 answered-requires-5 : tie.Need-answered-requires-5
 answered-requires-5 c κs = search needs
 
--- src/links.rt:186:9
 returns-5 : tie.Need-returns-5
 returns-5 c = answer-refused (graphIn (c .before .before .before .before .before .before .before .before .before .before .args .s .now)) (ask-links (c .before .before .before .before .before .before .before .before .before .before .args .k) (c .before .before .before .before .before .before .before .before .before .before .args .a) (c .before .before .before .before .before .before .before .before .before .before .args .b)) (c .before .before .before .before .before .before .before .before .before .before .args .out .now) (F-none (graphIn (c .before .before .before .before .before .before .before .before .before .before .args .s .now)) (c .before .before .before .before .before .before .before .before .before .before .pre .0 .accounts) (c .before .before .before .before .before .before .before .before .before .before .args .a) (c .before .before .before .before .before .before .before .before .before .before .args .b) (c .before .before .before .before .before .before .before .before .before .before .args .k) (c .before .before .before .before .before .before .if1 .left) (c .before .before .before .before .before .if2 .left) (level-good (c .before .before .before .before .before .before .before .before .before .before .args .k) (c .before .before .before .before .if3 .left) (c .before .before .before .if4 .left)) (no-such-link (graphIn (c .before .before .before .before .before .before .before .before .before .before .args .s .now)) (link (c .before .before .before .before .before .before .before .before .before .before .args .a) (c .before .before .before .before .before .before .before .before .before .before .args .b)) (c .before .before .before .before .before .before .before .before .before .before .pre .0 .links) (c .before .before .find-link .ensures) (c .before .if5 .taken))) (c .answered5 .ensures)
 
--- src/links.rt:188:9
 group-at-requires : tie.Need-group-at-requires
 group-at-requires c κs = (c .before .before .before .before .before .before .before .before .before .pre .0 .groups-at, (c .before .before .before .before .before .before .before .before .before .pre .0 .groups, (c .before .before .before .if3 .left, (found-in (graphIn (c .before .before .before .before .before .before .before .before .before .args .s .now)) (link (c .before .before .before .before .before .before .before .before .before .args .a) (c .before .before .before .before .before .before .before .before .before .args .b)) (c .before .before .before .before .before .before .before .before .before .pre .0 .links) (c .before .find-link .ensures) (c .if5 .left)))))
 
--- src/links.rt:189:5
 mark-members-requires : tie.Need-mark-members-requires
 mark-members-requires c κs = record { given = shape-groups (c .before .before .before .before .before .before .before .before .before .before .before .pre .0); links = c .before .before .before .before .before .before .before .before .before .before .before .pre .0 .links; level = c .before .before .before .before .before .if3 .left; e-in = (found-in (graphIn (c .before .before .before .before .before .before .before .before .before .before .before .args .s .now)) (link (c .before .before .before .before .before .before .before .before .before .before .before .args .a) (c .before .before .before .before .before .before .before .before .before .before .before .args .b)) (c .before .before .before .before .before .before .before .before .before .before .before .pre .0 .links) (c .before .before .before .find-link .ensures) (c .before .before .if5 .left)); is-group = c .before .group-at .ensures; size-is = c .before .before .before .before .before .before .before .before .before .before .before .pre .1 }
 
--- src/links.rt:190:5
 give-requires : tie.Need-give-requires
 give-requires c κs = record { size-is = c .before .before .before .before .mark-members .ensures .size-is; part = omega arith; few = shape-few (c .before .before .before .before .before .before .before .before .before .before .before .before .before .before .before .before .pre .0) .1 }
 
--- src/links.rt:156:1
 same-length : tie.Need-same-length
 same-length c = search needs
 
--- src/links.rt:156:1
 same-length-2 : tie.Need-same-length-2
 same-length-2 c = search needs
 
--- src/links.rt:156:1
 returns-6 : tie.Need-returns-6
 unfolding groupLinks
 returns-6 c = answer-numbers (graphIn (c .before .before .before .before .before .before .before .before .before .before .before .before .before .before .before .before .before .before .before .args .s .now)) (ask-links (c .before .before .before .before .before .before .before .before .before .before .before .before .before .before .before .before .before .before .before .args .k) (c .before .before .before .before .before .before .before .before .before .before .before .before .before .before .before .before .before .before .before .args .a) (c .before .before .before .before .before .before .before .before .before .before .before .before .before .before .before .before .before .before .before .args .b)) (c .before .before .before .before .before .before .before .before .before .before .before .before .before .before .before .before .before .before .before .args .out .now) (F-is (graphIn (c .before .before .before .before .before .before .before .before .before .before .before .before .before .before .before .before .before .before .before .args .s .now)) (c .before .before .before .before .before .before .before .before .before .before .before .before .before .before .before .before .before .before .before .pre .0 .accounts) (c .before .before .before .before .before .before .before .before .before .before .before .before .before .before .before .before .before .before .before .args .a) (c .before .before .before .before .before .before .before .before .before .before .before .before .before .before .before .before .before .before .before .args .b) (c .before .before .before .before .before .before .before .before .before .before .before .before .before .before .before .before .before .before .before .args .k) (c .before .before .before .before .before .before .before .before .before .before .before .before .before .before .before .if1 .left) (c .before .before .before .before .before .before .before .before .before .before .before .before .before .before .if2 .left) (level-good (c .before .before .before .before .before .before .before .before .before .before .before .before .before .before .before .before .before .before .before .args .k) (c .before .before .before .before .before .before .before .before .before .before .before .before .before .if3 .left) (c .before .before .before .before .before .before .before .before .before .before .before .before .if4 .left)) (found-link (graphIn (c .before .before .before .before .before .before .before .before .before .before .before .before .before .before .before .before .before .before .before .args .s .now)) (link (c .before .before .before .before .before .before .before .before .before .before .before .before .before .before .before .before .before .before .before .args .a) (c .before .before .before .before .before .before .before .before .before .before .before .before .before .before .before .before .before .before .before .args .b)) (c .before .before .before .before .before .before .before .before .before .before .before .before .before .before .before .before .before .before .before .pre .0 .links) (c .before .before .before .before .before .before .before .before .before .before .before .find-link .ensures) (c .before .before .before .before .before .before .before .before .before .before .if5 .left)) (members-are (c .before .before .before .before .before .before .before .before .before .before .before .before .before .before .before .before .before .before .before .pre .0 .links) (c .before .before .before .before .before .before .before .mark-members .ensures) ∙ ap (groupAt (graphIn (c .before .before .before .before .before .before .before .before .before .before .before .before .before .before .before .before .before .before .before .args .s .now)) (c .before .before .before .before .before .before .before .before .before .before .before .before .before .before .before .before .before .before .before .args .k)) (c .before .before .before .before .before .before .before .before .before .before .before .find-link .ensures))) (c .before .before .give .ensures)

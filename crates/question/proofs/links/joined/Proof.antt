@@ -1,3 +1,4 @@
+-- `question::links::joined` meets its contract. Assumes nothing.
 use native.Mathlib.Omega.{arith}
 use Rattle.truss.specs.Graph.{link}
 use Rattle.truss.specs.Question.{ask-joined}
@@ -7,81 +8,58 @@ use Rattle.question.specs.Links.{B-outside, B-1, B-2, B-3, B-4, B-inside
 use borrow.Author.Needs.{needs}
 use Rattle.question.proofs.links.joined.Statement.{statement}
 use Rattle.question.proofs.links.joined.Tie as tie
-use Rattle.question.proofs.links.joined.Reads as reads
-use Rattle.question.proofs.links.joined.Lts as lts
-use Rattle.index.proofs.answered.Reads as answered-reads
-use Rattle.question.proofs.links.joined_up_to.Reads as joined-up-to-reads
-use Rattle.stored.proofs.find.find_link.Reads as find-link-reads
 
--- src/links.rt:97:9
 answered-requires : tie.Need-answered-requires
 answered-requires c κs = search needs
 
--- src/links.rt:97:9
 returns : tie.Need-returns
 returns c = λ out. answer-refused (graphIn (c .before .before .before .args .s .now)) (ask-joined (c .before .before .before .args .a) (c .before .before .before .args .b) (c .before .before .before .args .c) (c .before .before .before .args .d)) out (B-outside (graphIn (c .before .before .before .args .s .now)) (c .before .before .before .pre .accounts) (c .before .before .before .args .a) (c .before .before .before .args .b) (c .before .before .before .args .c) (c .before .before .before .args .d) (B-1 (graphIn (c .before .before .before .args .s .now)) (c .before .before .before .pre .accounts) (c .before .before .before .args .a) (c .before .before .before .args .b) (c .before .before .before .args .c) (c .before .before .before .args .d) (c .before .if1 .taken))) (c .answered .ensures)
 
--- src/links.rt:100:9
 answered-requires-2 : tie.Need-answered-requires-2
 answered-requires-2 c κs = search needs
 
--- src/links.rt:100:9
 returns-2 : tie.Need-returns-2
 returns-2 c = λ out. answer-refused (graphIn (c .before .before .before .before .args .s .now)) (ask-joined (c .before .before .before .before .args .a) (c .before .before .before .before .args .b) (c .before .before .before .before .args .c) (c .before .before .before .before .args .d)) out (B-outside (graphIn (c .before .before .before .before .args .s .now)) (c .before .before .before .before .pre .accounts) (c .before .before .before .before .args .a) (c .before .before .before .before .args .b) (c .before .before .before .before .args .c) (c .before .before .before .before .args .d) (B-2 (graphIn (c .before .before .before .before .args .s .now)) (c .before .before .before .before .pre .accounts) (c .before .before .before .before .args .a) (c .before .before .before .before .args .b) (c .before .before .before .before .args .c) (c .before .before .before .before .args .d) (c .before .before .if1 .left) (c .before .if2 .taken))) (c .answered2 .ensures)
 
--- src/links.rt:103:9
 answered-requires-3 : tie.Need-answered-requires-3
 answered-requires-3 c κs = search needs
 
--- src/links.rt:103:9
 returns-3 : tie.Need-returns-3
 returns-3 c = λ out. answer-refused (graphIn (c .before .before .before .before .before .args .s .now)) (ask-joined (c .before .before .before .before .before .args .a) (c .before .before .before .before .before .args .b) (c .before .before .before .before .before .args .c) (c .before .before .before .before .before .args .d)) out (B-outside (graphIn (c .before .before .before .before .before .args .s .now)) (c .before .before .before .before .before .pre .accounts) (c .before .before .before .before .before .args .a) (c .before .before .before .before .before .args .b) (c .before .before .before .before .before .args .c) (c .before .before .before .before .before .args .d) (B-3 (graphIn (c .before .before .before .before .before .args .s .now)) (c .before .before .before .before .before .pre .accounts) (c .before .before .before .before .before .args .a) (c .before .before .before .before .before .args .b) (c .before .before .before .before .before .args .c) (c .before .before .before .before .before .args .d) (c .before .before .before .if1 .left) (c .before .before .if2 .left) (c .before .if3 .taken))) (c .answered3 .ensures)
 
--- src/links.rt:106:9
 answered-requires-4 : tie.Need-answered-requires-4
 answered-requires-4 c κs = search needs
 
--- src/links.rt:106:9
 returns-4 : tie.Need-returns-4
 returns-4 c = λ out. answer-refused (graphIn (c .before .before .before .before .before .before .args .s .now)) (ask-joined (c .before .before .before .before .before .before .args .a) (c .before .before .before .before .before .before .args .b) (c .before .before .before .before .before .before .args .c) (c .before .before .before .before .before .before .args .d)) out (B-outside (graphIn (c .before .before .before .before .before .before .args .s .now)) (c .before .before .before .before .before .before .pre .accounts) (c .before .before .before .before .before .before .args .a) (c .before .before .before .before .before .before .args .b) (c .before .before .before .before .before .before .args .c) (c .before .before .before .before .before .before .args .d) (B-4 (graphIn (c .before .before .before .before .before .before .args .s .now)) (c .before .before .before .before .before .before .pre .accounts) (c .before .before .before .before .before .before .args .a) (c .before .before .before .before .before .before .args .b) (c .before .before .before .before .before .before .args .c) (c .before .before .before .before .before .before .args .d) (c .before .before .before .before .if1 .left) (c .before .before .before .if2 .left) (c .before .before .if3 .left) (c .before .if4 .taken))) (c .answered4 .ensures)
 
--- src/links.rt:108:9
 find-link-requires : tie.Need-find-link-requires
 find-link-requires c κs = search needs
 
--- src/links.rt:110:9
 answered-requires-5 : tie.Need-answered-requires-5
 answered-requires-5 c κs = search needs
 
--- src/links.rt:110:9
 returns-5 : tie.Need-returns-5
 returns-5 c = λ out. answer-refused (graphIn (c .before .before .before .before .before .before .before .before .args .s .now)) (ask-joined (c .before .before .before .before .before .before .before .before .args .a) (c .before .before .before .before .before .before .before .before .args .b) (c .before .before .before .before .before .before .before .before .args .c) (c .before .before .before .before .before .before .before .before .args .d)) out (B-first (graphIn (c .before .before .before .before .before .before .before .before .args .s .now)) (c .before .before .before .before .before .before .before .before .pre .accounts) (c .before .before .before .before .before .before .before .before .args .a) (c .before .before .before .before .before .before .before .before .args .b) (c .before .before .before .before .before .before .before .before .args .c) (c .before .before .before .before .before .before .before .before .args .d) (B-inside (graphIn (c .before .before .before .before .before .before .before .before .args .s .now)) (c .before .before .before .before .before .before .before .before .pre .accounts) (c .before .before .before .before .before .before .before .before .args .a) (c .before .before .before .before .before .before .before .before .args .b) (c .before .before .before .before .before .before .before .before .args .c) (c .before .before .before .before .before .before .before .before .args .d) (c .before .before .before .before .before .before .if1 .left) (c .before .before .before .before .before .if2 .left) (c .before .before .before .before .if3 .left) (c .before .before .before .if4 .left)) (no-such-link (graphIn (c .before .before .before .before .before .before .before .before .args .s .now)) (link (c .before .before .before .before .before .before .before .before .args .a) (c .before .before .before .before .before .before .before .before .args .b)) (c .before .before .before .before .before .before .before .before .pre .links) (c .before .before .find-link .ensures) (c .before .if5 .taken))) (c .answered5 .ensures)
 
--- src/links.rt:112:9
 find-link-requires-2 : tie.Need-find-link-requires-2
 find-link-requires-2 c κs = search needs
 
--- src/links.rt:114:9
 answered-requires-6 : tie.Need-answered-requires-6
 answered-requires-6 c κs = search needs
 
--- src/links.rt:114:9
 returns-6 : tie.Need-returns-6
 returns-6 c = λ out. answer-refused (graphIn (c .before .before .before .before .before .before .before .before .before .before .args .s .now)) (ask-joined (c .before .before .before .before .before .before .before .before .before .before .args .a) (c .before .before .before .before .before .before .before .before .before .before .args .b) (c .before .before .before .before .before .before .before .before .before .before .args .c) (c .before .before .before .before .before .before .before .before .before .before .args .d)) out (B-second (graphIn (c .before .before .before .before .before .before .before .before .before .before .args .s .now)) (c .before .before .before .before .before .before .before .before .before .before .pre .accounts) (c .before .before .before .before .before .before .before .before .before .before .args .a) (c .before .before .before .before .before .before .before .before .before .before .args .b) (c .before .before .before .before .before .before .before .before .before .before .args .c) (c .before .before .before .before .before .before .before .before .before .before .args .d) (B-inside (graphIn (c .before .before .before .before .before .before .before .before .before .before .args .s .now)) (c .before .before .before .before .before .before .before .before .before .before .pre .accounts) (c .before .before .before .before .before .before .before .before .before .before .args .a) (c .before .before .before .before .before .before .before .before .before .before .args .b) (c .before .before .before .before .before .before .before .before .before .before .args .c) (c .before .before .before .before .before .before .before .before .before .before .args .d) (c .before .before .before .before .before .before .before .before .if1 .left) (c .before .before .before .before .before .before .before .if2 .left) (c .before .before .before .before .before .before .if3 .left) (c .before .before .before .before .before .if4 .left)) (found-link (graphIn (c .before .before .before .before .before .before .before .before .before .before .args .s .now)) (link (c .before .before .before .before .before .before .before .before .before .before .args .a) (c .before .before .before .before .before .before .before .before .before .before .args .b)) (c .before .before .before .before .before .before .before .before .before .before .pre .links) (c .before .before .before .before .find-link .ensures) (c .before .before .before .if5 .left)) (no-such-link (graphIn (c .before .before .before .before .before .before .before .before .before .before .args .s .now)) (link (c .before .before .before .before .before .before .before .before .before .before .args .c) (c .before .before .before .before .before .before .before .before .before .before .args .d)) (c .before .before .before .before .before .before .before .before .before .before .pre .links) (c .before .before .find-link2 .ensures) (c .before .if6 .taken))) (c .answered6 .ensures)
 
--- src/links.rt:116:17
 joined-up-to-requires : tie.Need-joined-up-to-requires
 joined-up-to-requires c κs = (shape-groups (c .before .before .before .before .before .before .before .before .before .pre), ((found-in (graphIn (c .before .before .before .before .before .before .before .before .before .args .s .now)) (link (c .before .before .before .before .before .before .before .before .before .args .a) (c .before .before .before .before .before .before .before .before .before .args .b)) (c .before .before .before .before .before .before .before .before .before .pre .links) (c .before .before .before .find-link .ensures) (c .before .before .if5 .left)), (found-in (graphIn (c .before .before .before .before .before .before .before .before .before .args .s .now)) (link (c .before .before .before .before .before .before .before .before .before .args .c) (c .before .before .before .before .before .before .before .before .before .args .d)) (c .before .before .before .before .before .before .before .before .before .pre .links) (c .before .find-link2 .ensures) (c .if6 .left))))
 
--- src/links.rt:116:17
 cast-answered : tie.Need-cast-answered
 cast-answered c = omega (arith, c .joined-up-to .ensures .small)
 
--- src/links.rt:116:5
 answered-requires-7 : tie.Need-answered-requires-7
 answered-requires-7 c κs = search needs
 
--- src/links.rt:82:1
 returns-7 : tie.Need-returns-7
 returns-7 c = λ out. answer-number (graphIn (c .before .before .before .before .before .before .before .before .before .before .before .args .s .now)) (ask-joined (c .before .before .before .before .before .before .before .before .before .before .before .args .a) (c .before .before .before .before .before .before .before .before .before .before .before .args .b) (c .before .before .before .before .before .before .before .before .before .before .before .args .c) (c .before .before .before .before .before .before .before .before .before .before .before .args .d)) out (B-is (graphIn (c .before .before .before .before .before .before .before .before .before .before .before .args .s .now)) (c .before .before .before .before .before .before .before .before .before .before .before .pre .accounts) (c .before .before .before .before .before .before .before .before .before .before .before .args .a) (c .before .before .before .before .before .before .before .before .before .before .before .args .b) (c .before .before .before .before .before .before .before .before .before .before .before .args .c) (c .before .before .before .before .before .before .before .before .before .before .before .args .d) (B-inside (graphIn (c .before .before .before .before .before .before .before .before .before .before .before .args .s .now)) (c .before .before .before .before .before .before .before .before .before .before .before .pre .accounts) (c .before .before .before .before .before .before .before .before .before .before .before .args .a) (c .before .before .before .before .before .before .before .before .before .before .before .args .b) (c .before .before .before .before .before .before .before .before .before .before .before .args .c) (c .before .before .before .before .before .before .before .before .before .before .before .args .d) (c .before .before .before .before .before .before .before .before .before .if1 .left) (c .before .before .before .before .before .before .before .before .if2 .left) (c .before .before .before .before .before .before .before .if3 .left) (c .before .before .before .before .before .before .if4 .left)) (found-link (graphIn (c .before .before .before .before .before .before .before .before .before .before .before .args .s .now)) (link (c .before .before .before .before .before .before .before .before .before .before .before .args .a) (c .before .before .before .before .before .before .before .before .before .before .before .args .b)) (c .before .before .before .before .before .before .before .before .before .before .before .pre .links) (c .before .before .before .before .before .find-link .ensures) (c .before .before .before .before .if5 .left)) (found-link (graphIn (c .before .before .before .before .before .before .before .before .before .before .before .args .s .now)) (link (c .before .before .before .before .before .before .before .before .before .before .before .args .c) (c .before .before .before .before .before .before .before .before .before .before .before .args .d)) (c .before .before .before .before .before .before .before .before .before .before .before .pre .links) (c .before .before .before .find-link2 .ensures) (c .before .before .if6 .left)) (c .before .joined-up-to .ensures .is (link (c .before .before .before .before .before .before .before .before .before .before .before .args .a) (c .before .before .before .before .before .before .before .before .before .before .before .args .b)) (link (c .before .before .before .before .before .before .before .before .before .before .before .args .c) (c .before .before .before .before .before .before .before .before .before .before .before .args .d)) (found-link (graphIn (c .before .before .before .before .before .before .before .before .before .before .before .args .s .now)) (link (c .before .before .before .before .before .before .before .before .before .before .before .args .a) (c .before .before .before .before .before .before .before .before .before .before .before .args .b)) (c .before .before .before .before .before .before .before .before .before .before .before .pre .links) (c .before .before .before .before .before .find-link .ensures) (c .before .before .before .before .if5 .left)) (c .before .before .before .before .before .find-link .ensures) (c .before .before .before .find-link2 .ensures))) (c .answered7 .ensures)
 

@@ -1,3 +1,4 @@
+-- `question::links::mark_members` meets its contract. Assumes nothing.
 use native.Mathlib.Omega.{arith}
 use mathlib.Core.Path.{_≡_, sym, _∙_}
 use Prim.Native.Nat.{_-_, _≤_}
@@ -5,10 +6,6 @@ use Rattle.stored.specs.Rows.{graphIn, few-links}
 use Rattle.question.specs.Links.{Members, members-none, members-more}
 use Rattle.question.proofs.links.mark_members.Statement.{statement}
 use Rattle.question.proofs.links.mark_members.Tie as tie
-use Rattle.question.proofs.links.mark_members.Reads as reads
-use Rattle.question.proofs.links.mark_members.Lts as lts
-use Rattle.columns.proofs.put.Reads as put-reads
-use Rattle.question.proofs.links.inside.Reads as inside-reads
 
 abbrev Inv-loop : tie.InvT-loop
 Inv-loop s at count w₀ m k e g i₀ w i = (i ≤ m) × Members (graphIn s) k e m i w
@@ -16,35 +13,27 @@ Inv-loop s at count w₀ m k e g i₀ w i = (i ≤ m) × Members (graphIn s) k e
 abbrev μ-loop : tie.MeasureT-loop
 μ-loop s at count w₀ m k e g i₀ w i = m - i
 
--- src/links.rt:148:5
 loop-holds : tie.Need-loop-holds Inv-loop μ-loop
 loop-holds c = (omega arith, members-none (c .before .before .pre .size-is))
 
--- src/links.rt:149:13
 inside-requires : tie.Need-inside-requires Inv-loop μ-loop
 inside-requires c κs = record { given = c .before .before .before .before .pre .given; level = c .before .before .before .before .pre .level; e-in = c .before .before .before .before .pre .e-in; i-in = omega (arith, c .loop-test .taken, c .before .before .before .before .pre .links); is-group = c .before .before .before .before .pre .is-group }
 
--- src/links.rt:150:9
 put-requires : tie.Need-put-requires Inv-loop μ-loop
 put-requires c κs = (omega arith, (c .before .before .loop-test .taken, (omega (arith, c .before .inside .ensures .small), c .before .before .before .loop .inv .1 .size-is)))
 
--- src/links.rt:151:9
 add-i : tie.Need-add-i Inv-loop μ-loop
 add-i c = omega (arith, c .before .before .before .before .before .loop-test .taken, few-links (c .before .before .before .before .before .before .before .before .before .pre .given .groups-at .is-index), c .before .before .before .before .before .before .before .before .before .pre .links)
 
--- src/links.rt:148:5
 loop-less : tie.Need-loop-less Inv-loop μ-loop
 loop-less c = omega (arith, c .before .before .before .before .before .loop-test .taken)
 
--- src/links.rt:148:5
 loop-again : tie.Need-loop-again Inv-loop μ-loop
 loop-again c = (omega (arith, c .before .before .before .before .before .loop-test .taken), members-more (c .before .before .before .before .before .loop-test .taken) (c .before .before .before .before .before .before .loop .inv .1) (c .before .before .before .before .inside .ensures) (c .before .before .put .ensures))
 
--- src/links.rt:134:1
 same-length : tie.Need-same-length Inv-loop μ-loop
 same-length c = c .before .loop .inv .1 .size-is ∙ sym (c .before .before .before .before .pre .size-is)
 
--- src/links.rt:134:1
 returns : tie.Need-returns Inv-loop μ-loop
 returns c = let e : c .before .loop .i ≡ c .before .before .before .before .args .m = omega (arith, c .loop-test .left, c .before .loop .inv .0) in rw e at (c .before .loop .inv .1)
 

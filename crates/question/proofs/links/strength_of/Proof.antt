@@ -1,3 +1,4 @@
+-- `question::links::strength_of` meets its contract. Assumes nothing.
 use native.Mathlib.Omega.{arith}
 use mathlib.Core.Path.{_∙_}
 use Rattle.truss.specs.Graph.{link}
@@ -8,53 +9,37 @@ use Rattle.question.specs.Links.{A-first, A-second, A-none, A-is, found-
 use borrow.Author.Needs.{needs}
 use Rattle.question.proofs.links.strength_of.Statement.{statement}
 use Rattle.question.proofs.links.strength_of.Tie as tie
-use Rattle.question.proofs.links.strength_of.Reads as reads
-use Rattle.question.proofs.links.strength_of.Lts as lts
-use Rattle.index.proofs.answered.Reads as answered-reads
-use Rattle.stored.proofs.find.find_link.Reads as find-link-reads
-use Rattle.stored.proofs.rows.link_strength.Reads as link-strength-reads
 
--- src/links.rt:37:9
 answered-requires : tie.Need-answered-requires
 answered-requires c κs = search needs
 
--- src/links.rt:37:9
 returns : tie.Need-returns
 returns c = λ out. answer-refused (graphIn (c .before .before .before .args .s .now)) (ask-strength (c .before .before .before .args .a) (c .before .before .before .args .b)) out (A-first (graphIn (c .before .before .before .args .s .now)) (c .before .before .before .pre .accounts) (c .before .before .before .args .a) (c .before .before .before .args .b) (c .before .if1 .taken)) (c .answered .ensures)
 
--- src/links.rt:40:9
 answered-requires-2 : tie.Need-answered-requires-2
 answered-requires-2 c κs = search needs
 
--- src/links.rt:40:9
 returns-2 : tie.Need-returns-2
 returns-2 c = λ out. answer-refused (graphIn (c .before .before .before .before .args .s .now)) (ask-strength (c .before .before .before .before .args .a) (c .before .before .before .before .args .b)) out (A-second (graphIn (c .before .before .before .before .args .s .now)) (c .before .before .before .before .pre .accounts) (c .before .before .before .before .args .a) (c .before .before .before .before .args .b) (c .before .before .if1 .left) (c .before .if2 .taken)) (c .answered2 .ensures)
 
--- src/links.rt:42:9
 find-link-requires : tie.Need-find-link-requires
 find-link-requires c κs = (c .before .before .before .pre .groups-at .is-index, c .before .before .before .pre .links)
 
--- src/links.rt:44:9
 answered-requires-3 : tie.Need-answered-requires-3
 answered-requires-3 c κs = search needs
 
--- src/links.rt:44:9
 returns-3 : tie.Need-returns-3
 returns-3 c = λ out. answer-refused (graphIn (c .before .before .before .before .before .before .args .s .now)) (ask-strength (c .before .before .before .before .before .before .args .a) (c .before .before .before .before .before .before .args .b)) out (A-none (graphIn (c .before .before .before .before .before .before .args .s .now)) (c .before .before .before .before .before .before .pre .accounts) (c .before .before .before .before .before .before .args .a) (c .before .before .before .before .before .before .args .b) (c .before .before .before .before .if1 .left) (c .before .before .before .if2 .left) (no-such-link (graphIn (c .before .before .before .before .before .before .args .s .now)) (link (c .before .before .before .before .before .before .args .a) (c .before .before .before .before .before .before .args .b)) (c .before .before .before .before .before .before .pre .links) (c .before .before .find-link .ensures) (c .before .if3 .taken))) (c .answered3 .ensures)
 
--- src/links.rt:46:17
 link-strength-requires : tie.Need-link-strength-requires
 link-strength-requires c κs = (c .before .before .before .before .before .pre .groups-at .is-index, found-in (graphIn (c .before .before .before .before .before .args .s .now)) (link (c .before .before .before .before .before .args .a) (c .before .before .before .before .before .args .b)) (c .before .before .before .before .before .pre .links) (c .before .find-link .ensures) (c .if3 .left))
 
--- src/links.rt:46:17
 cast-answered : tie.Need-cast-answered
 cast-answered c = omega (arith, c .link-strength .ensures .1)
 
--- src/links.rt:46:5
 answered-requires-4 : tie.Need-answered-requires-4
 answered-requires-4 c κs = search needs
 
--- src/links.rt:24:1
 returns-4 : tie.Need-returns-4
 returns-4 c = λ out. answer-number (graphIn (c .before .before .before .before .before .before .before .args .s .now)) (ask-strength (c .before .before .before .before .before .before .before .args .a) (c .before .before .before .before .before .before .before .args .b)) out (A-is (graphIn (c .before .before .before .before .before .before .before .args .s .now)) (c .before .before .before .before .before .before .before .pre .accounts) (c .before .before .before .before .before .before .before .args .a) (c .before .before .before .before .before .before .before .args .b) (c .before .before .before .before .before .if1 .left) (c .before .before .before .before .if2 .left) (found-link (graphIn (c .before .before .before .before .before .before .before .args .s .now)) (link (c .before .before .before .before .before .before .before .args .a) (c .before .before .before .before .before .before .before .args .b)) (c .before .before .before .before .before .before .before .pre .links) (c .before .before .before .find-link .ensures) (c .before .before .if3 .left)) (c .before .link-strength .ensures .0 ∙ found-strength (graphIn (c .before .before .before .before .before .before .before .args .s .now)) (link (c .before .before .before .before .before .before .before .args .a) (c .before .before .before .before .before .before .before .args .b)) (c .before .before .before .before .before .before .before .pre .links) (c .before .before .before .find-link .ensures) (c .before .before .if3 .left))) (c .answered4 .ensures)
 

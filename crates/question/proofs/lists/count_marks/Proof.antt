@@ -1,3 +1,4 @@
+-- `question::lists::count_marks` meets its contract. Assumes nothing.
 use native.Mathlib.Omega.{arith}
 use mathlib.Core.Path.{_≡_, sym, ap, _∙_}
 use Prim.Native.Nat.{ℕ, _+_, _-_, _≤_}
@@ -6,10 +7,6 @@ use lib.ListN.{length}
 use Rattle.question.specs.Lists.{marked, marked-none, marked-few, counted-more}
 use Rattle.question.proofs.lists.count_marks.Statement.{statement}
 use Rattle.question.proofs.lists.count_marks.Tie as tie
-use Rattle.question.proofs.lists.count_marks.Reads as reads
-use Rattle.question.proofs.lists.count_marks.Lts as lts
-use Rattle.columns.proofs.get.Reads as get-reads
-use Rattle.question.proofs.lists.one_if.Reads as one-if-reads
 
 abbrev Inv-loop : tie.InvT-loop
 Inv-loop w m size c₀ i₀ c i = (i ≤ size) × (c ≡ length (marked w m i))
@@ -17,35 +14,27 @@ Inv-loop w m size c₀ i₀ c i = (i ≤ size) × (c ≡ length (marked w m i))
 abbrev μ-loop : tie.MeasureT-loop
 μ-loop w m size c₀ i₀ c i = size - i
 
--- src/lists.rt:35:5
 loop-holds : tie.Need-loop-holds Inv-loop μ-loop
 loop-holds c = (omega arith, sym (ap length (marked-none (c .before .args .w .now) (c .before .args .m))))
 
--- src/lists.rt:36:21
 get-requires : tie.Need-get-requires Inv-loop μ-loop
 get-requires c κs = (omega arith, (omega (arith, c .loop-test .taken, c .before .before .before .pre .part), c .before .before .before .pre .size-is))
 
--- src/lists.rt:36:14
 one-if-requires : tie.Need-one-if-requires Inv-loop μ-loop
 one-if-requires c κs = search needs
 
--- src/lists.rt:36:9
 add-c : tie.Need-add-c Inv-loop μ-loop
 add-c c = omega (arith, c .before .before .before .loop .inv .1, c .before .before .before .loop .inv .0, counted-more (c .before .before .before .before .before .args .w .now) (c .before .before .before .before .before .args .m) (c .before .before .before .loop .i) (c .before .before .before .loop .inv .1) (c .before .get .ensures .0) (c .one-if .ensures), marked-few (c .before .before .before .before .before .args .w .now) (c .before .before .before .before .before .args .m) (c .before .before .before .loop .i + 1), c .before .before .before .before .before .pre .part, c .before .before .before .before .before .pre .few)
 
--- src/lists.rt:37:9
 add-i : tie.Need-add-i Inv-loop μ-loop
 add-i c = omega (arith, c .before .before .loop-test .taken, c .before .before .before .before .before .pre .part, c .before .before .before .before .before .pre .few)
 
--- src/lists.rt:35:5
 loop-less : tie.Need-loop-less Inv-loop μ-loop
 loop-less c = omega (arith, c .before .before .loop-test .taken)
 
--- src/lists.rt:35:5
 loop-again : tie.Need-loop-again Inv-loop μ-loop
 loop-again c = (omega (arith, c .before .before .loop-test .taken), counted-more (c .before .before .before .before .before .args .w .now) (c .before .before .before .before .before .args .m) (c .before .before .before .loop .i) (c .before .before .before .loop .inv .1) (c .before .get .ensures .0) (c .one-if .ensures))
 
--- src/lists.rt:29:1
 returns : tie.Need-returns Inv-loop μ-loop
 returns c = let e : c .before .loop .i ≡ c .before .before .before .args .size = omega (arith, c .loop-test .left, c .before .loop .inv .0) in c .before .loop .inv .1 ∙ ap (λ (x : ℕ). length (marked (c .before .before .before .args .w .now) (c .before .before .before .args .m) x)) e
 

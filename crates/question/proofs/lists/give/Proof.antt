@@ -1,3 +1,4 @@
+-- `question::lists::give` meets its contract. Assumes nothing.
 use native.Mathlib.Omega.{arith}
 use mathlib.Core.Path.{_≡_, refl, ap, _∙_}
 use Prim.Native.Nat.{ℕ, _+_, _*_}
@@ -9,75 +10,52 @@ use Rattle.question.specs.Lists.{marked, marked-few, list-no-room, list-
 use borrow.Author.Needs.{needs}
 use Rattle.question.proofs.lists.give.Statement.{statement}
 use Rattle.question.proofs.lists.give.Tie as tie
-use Rattle.question.proofs.lists.give.Reads as reads
-use Rattle.question.proofs.lists.give.Lts as lts
-use Rattle.index.proofs.answered.Reads as answered-reads
-use Rattle.question.proofs.lists.count_marks.Reads as count-marks-reads
-use Rattle.question.proofs.lists.write_marks.Reads as write-marks-reads
-use Rattle.wire.proofs.field_record.Reads as field-record-reads
-use Rattle.wire.proofs.paste.Reads as paste-reads
 
--- src/lists.rt:76:9
 count-marks-requires : tie.Need-count-marks-requires
 count-marks-requires c κs = search needs
 
--- src/lists.rt:77:19
 mul-len : tie.Need-mul-len
 mul-len c = omega (arith, c .count-marks .ensures, marked-few (c .before .before .before .args .w .now) (c .before .before .before .args .m) (c .before .before .before .args .size), c .before .before .before .pre .part, c .before .before .before .pre .few)
 
--- src/lists.rt:77:15
 add-len : tie.Need-add-len
 add-len c = omega (arith, c .count-marks .ensures, marked-few (c .before .before .before .args .w .now) (c .before .before .before .args .m) (c .before .before .before .args .size), c .before .before .before .pre .part, c .before .before .before .pre .few)
 
--- src/lists.rt:79:9
 answered-requires : tie.Need-answered-requires
 answered-requires c κs = search needs
 
--- src/lists.rt:79:9
 returns : tie.Need-returns
 returns c = list-no-room (marked (c .before .before .before .before .before .args .w .now) (c .before .before .before .before .before .args .m) (c .before .before .before .before .before .args .size)) (c .before .before .before .before .before .args .out .now) (omega (arith, c .before .if1 .taken, c .before .before .count-marks .ensures)) (c .answered .ensures)
 
--- src/lists.rt:81:15
 field-record-requires : tie.Need-field-record-requires
 field-record-requires c κs = search needs
 
--- src/lists.rt:82:16
 slice-aggregate-paste : tie.Need-slice-aggregate-paste
 slice-aggregate-paste c = search needs
 
--- src/lists.rt:82:5
 paste-requires : tie.Need-paste-requires
 paste-requires c κs = search needs
 
--- src/lists.rt:83:17
 sub-write-marks : tie.Need-sub-write-marks
 sub-write-marks c = search needs
 
--- src/lists.rt:83:17
 part-write-marks-start : tie.Need-part-write-marks-start
 part-write-marks-start c = search needs
 
--- src/lists.rt:83:17
 part-write-marks-end : tie.Need-part-write-marks-end
 part-write-marks-end c = search needs
 
--- src/lists.rt:83:5
 write-marks-requires : tie.Need-write-marks-requires
 write-marks-requires c κs = search needs
 
--- src/lists.rt:84:17
 cast-answered : tie.Need-cast-answered
 cast-answered c = omega (arith, c .before .before .before .before .before .before .before .before .before .before .before .count-marks .ensures, marked-few (c .before .before .before .before .before .before .before .before .before .before .before .before .before .before .args .w .now) (c .before .before .before .before .before .before .before .before .before .before .before .before .before .before .args .m) (c .before .before .before .before .before .before .before .before .before .before .before .before .before .before .args .size), c .before .before .before .before .before .before .before .before .before .before .before .before .before .before .pre .part, c .before .before .before .before .before .before .before .before .before .before .before .before .before .before .pre .few)
 
--- src/lists.rt:84:5
 answered-requires-2 : tie.Need-answered-requires-2
 answered-requires-2 c κs = search needs
 
--- src/lists.rt:72:1
 same-length : tie.Need-same-length
 same-length c = search needs
 
--- src/lists.rt:72:1
 returns-2 : tie.Need-returns-2
 returns-2 c = let xs = marked (c .before .before .before .before .before .before .before .before .before .before .before .before .before .before .before .args .w .now) (c .before .before .before .before .before .before .before .before .before .before .before .before .before .before .before .args .m) (c .before .before .before .before .before .before .before .before .before .before .before .before .before .before .before .args .size) in let q : c .before .before .before .before .before .before .before .before .before .before .before .before .count-marks .result ≡ length xs = c .before .before .before .before .before .before .before .before .before .before .before .before .count-marks .ensures in list-wrote xs (c .before .before .before .before .before .before .before .before .before .before .before .before .before .before .before .args .out .now) (omega (arith, c .before .before .before .before .before .before .before .before .before .before .before .if1 .left, q)) (written-next (c .before .before .before .before .before .before .before .before .before .before .before .before .before .before .before .args .out .now) (field (length xs)) (concatMap field xs) 0 {at = 2} (c .before .before .before .before .before .before .before .paste .ensures ∙ ap (written (c .before .before .before .before .before .before .before .before .before .before .before .before .before .before .before .args .out .now) 0) (c .before .before .before .before .before .before .before .before .before .before .field-record .ensures ∙ ap field q)) refl (omega (arith, c .before .before .before .before .before .before .before .before .before .before .before .if1 .left, q)) (c .before .before .before .write-marks .ensures)) (rw (ap (λ (x : ℕ). 2 + 2 * x) q) at (c .answered2 .ensures))
 

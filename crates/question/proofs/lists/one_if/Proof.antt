@@ -1,15 +1,12 @@
+-- `question::lists::one_if` meets its contract. Assumes nothing.
 use borrow.Author.Tests.{eq-eqb, ne-eqb}
 use mathlib.Core.Path.{refl}
 use Rattle.question.proofs.lists.one_if.Statement.{statement}
 use Rattle.question.proofs.lists.one_if.Tie as tie
-use Rattle.question.proofs.lists.one_if.Reads as reads
-use Rattle.question.proofs.lists.one_if.Lts as lts
 
--- src/lists.rt:23:9
 returns : tie.Need-returns
 returns c = rw (eq-eqb _ 0 (c .if1 .taken)) refl
 
--- src/lists.rt:19:1
 returns-2 : tie.Need-returns-2
 returns-2 c = rw (ne-eqb _ 0 (c .if1 .left)) refl
 

@@ -1,3 +1,4 @@
+-- `question::lists::put_number` meets its contract. Assumes nothing.
 use Prim.Native.Nat.{_-_}
 use lib.ListN.{length, drop, length-drop}
 use lib.Seq.{length-take-le}
@@ -7,48 +8,34 @@ use mathlib.Core.Path.{refl, ap}
 use borrow.Author.Needs.{needs}
 use Rattle.question.proofs.lists.put_number.Statement.{statement}
 use Rattle.question.proofs.lists.put_number.Tie as tie
-use Rattle.question.proofs.lists.put_number.Reads as reads
-use Rattle.question.proofs.lists.put_number.Lts as lts
-use Rattle.wire.proofs.field_record.Reads as field-record-reads
-use Rattle.wire.proofs.paste.Reads as paste-reads
 
--- src/lists.rt:49:9
 returns : tie.Need-returns
 returns c = record { none = λ _. (refl, refl); some = λ n. absurd (n (c .if1 .taken)) }
 
--- src/lists.rt:51:15
 field-record-requires : tie.Need-field-record-requires
 field-record-requires c κs = search needs
 
--- src/lists.rt:52:11
 sub-paste : tie.Need-sub-paste
 sub-paste c = omega (arith, c .before .before .before .pre .1 (c .before .if1 .left))
 
--- src/lists.rt:52:11
 part-paste-start : tie.Need-part-paste-start
 part-paste-start c = omega (arith, c .before .before .before .pre .1 (c .before .if1 .left))
 
--- src/lists.rt:52:11
 part-paste-end : tie.Need-part-paste-end
 part-paste-end c = search needs
 
--- src/lists.rt:52:27
 slice-aggregate-paste : tie.Need-slice-aggregate-paste
 slice-aggregate-paste c = search needs
 
--- src/lists.rt:52:5
 paste-requires : tie.Need-paste-requires
 paste-requires c κs = let r = c .before .before .before .before .before .pre .1 (c .before .before .before .if1 .left) in omega (arith, r, ap length (c .before .before .field-record .ensures), length-take-le (length (c .before .before .before .before .before .args .out .now) - c .before .before .before .before .before .args .at) (drop (c .before .before .before .before .before .args .at) (c .before .before .before .before .before .args .out .now)) (simp length-drop (omega arith)), length-drop (c .before .before .before .before .before .args .at) (c .before .before .before .before .before .args .out .now))
 
--- src/lists.rt:53:5
 add-result : tie.Need-add-result
 add-result c = search needs
 
--- src/lists.rt:43:1
 same-length : tie.Need-same-length
 same-length c = search needs
 
--- src/lists.rt:43:1
 returns-2 : tie.Need-returns-2
 returns-2 c = record { none = λ z. absurd (c .before .before .before .before .before .before .if1 .left z); some = λ n. (refl, rw (c .before .before .paste .ensures, c .before .before .before .before .before .field-record .ensures) (written-part (c .before .before .before .before .before .before .before .before .args .out .now) (c .before .before .before .before .before .before .before .before .args .at) (length (c .before .before .before .before .before .before .before .before .args .out .now) - c .before .before .before .before .before .before .before .before .args .at) _ (omega arith))) }
 

@@ -1,3 +1,4 @@
+-- `question::named::all_groups` meets its contract. Assumes nothing.
 use Rattle.truss.specs.Question.{ask-all}
 use Rattle.stored.specs.Rows.{graphIn}
 use Rattle.question.specs.Replies.{answer-refused, answer-numbers}
@@ -6,41 +7,28 @@ use Rattle.question.specs.Named.{E-fault, E-answer, E-marked}
 use borrow.Author.Needs.{needs}
 use Rattle.question.proofs.named.all_groups.Statement.{statement}
 use Rattle.question.proofs.named.all_groups.Tie as tie
-use Rattle.question.proofs.named.all_groups.Reads as reads
-use Rattle.question.proofs.named.all_groups.Lts as lts
-use Rattle.index.proofs.answered.Reads as answered-reads
-use Rattle.question.proofs.lists.give.Reads as give-reads
-use Rattle.question.proofs.named.hold_named.Reads as hold-named-reads
 
--- src/named.rt:243:9
 hold-named-requires : tie.Need-hold-named-requires
 hold-named-requires c κs = search needs
 
--- src/named.rt:245:9
 answered-requires : tie.Need-answered-requires
 answered-requires c κs = search needs
 
--- src/named.rt:245:9
 same-length : tie.Need-same-length
 same-length c = search needs
 
--- src/named.rt:245:9
 returns : tie.Need-returns
 returns c = answer-refused (graphIn (c .before .before .before .before .before .before .before .before .before .before .args .s .now)) (ask-all (c .before .before .before .before .before .before .before .before .before .before .args .named .now)) (c .before .before .before .before .before .before .before .before .before .before .args .out .now) (E-fault (graphIn (c .before .before .before .before .before .before .before .before .before .before .args .s .now)) (c .before .before .before .before .before .before .before .before .before .before .pre .0 .accounts) (c .before .before .before .before .before .before .before .before .before .before .args .named .now) (c .before .before .before .before .hold-named .ensures .fault) (c .before .if1 .taken)) (c .answered .ensures)
 
--- src/named.rt:247:5
 give-requires : tie.Need-give-requires
 give-requires c κs = record { size-is = c .before .before .before .before .before .hold-named .ensures .size-is; part = shape-few (c .before .before .before .before .before .before .before .before .before .before .before .pre .0) .0; few = shape-few (c .before .before .before .before .before .before .before .before .before .before .before .pre .0) .1 }
 
--- src/named.rt:229:1
 same-length-2 : tie.Need-same-length-2
 same-length-2 c = search needs
 
--- src/named.rt:229:1
 same-length-3 : tie.Need-same-length-3
 same-length-3 c = search needs
 
--- src/named.rt:229:1
 returns-2 : tie.Need-returns-2
 returns-2 c = answer-numbers (graphIn (c .before .before .before .before .before .before .before .before .before .before .before .before .before .before .args .s .now)) (ask-all (c .before .before .before .before .before .before .before .before .before .before .before .before .before .before .args .named .now)) (c .before .before .before .before .before .before .before .before .before .before .before .before .before .before .args .out .now) (E-answer ((c .before .before .before .before .before .before .before .before .hold-named .ensures .held (c .before .before .before .before .before .if1 .left)) .0) (E-marked (c .before .before .before .before .before .before .before .before .before .before .before .before .before .before .pre .0 .groups) ((c .before .before .before .before .before .before .before .before .hold-named .ensures .held (c .before .before .before .before .before .if1 .left)) .1))) (c .before .before .give .ensures)
 

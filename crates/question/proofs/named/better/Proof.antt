@@ -1,30 +1,22 @@
+-- `question::named::better` meets its contract. Assumes nothing.
 use native.Mathlib.Omega.{arith}
 use Rattle.question.specs.Named.{counts-unmarked, counts-less, counts-more}
 use Rattle.stored.specs.Rows.{sized-few}
 use Rattle.question.proofs.named.better.Statement.{statement}
 use Rattle.question.proofs.named.better.Tie as tie
-use Rattle.question.proofs.named.better.Reads as reads
-use Rattle.question.proofs.named.better.Lts as lts
-use Rattle.columns.proofs.get.Reads as get-reads
-use Rattle.stored.proofs.rows.group_strength.Reads as group-strength-reads
 
--- src/named.rt:113:8
 get-requires : tie.Need-get-requires
 get-requires c κs = (omega arith, (omega (arith, c .before .before .pre .1 .1 .0, sized-few (c .before .before .pre .0) .0), c .before .before .pre .1 .0))
 
--- src/named.rt:114:9
 returns : tie.Need-returns
 returns c = counts-unmarked (c .before .get .ensures .0) (c .if1 .taken) (c .before .before .before .before .pre .1 .1 .1)
 
--- src/named.rt:116:9
 group-strength-requires : tie.Need-group-strength-requires
 group-strength-requires c κs = (c .before .before .before .before .pre .0 .groups-at, omega (arith, c .before .before .before .before .pre .1 .1 .0, c .before .before .before .before .pre .0 .groups))
 
--- src/named.rt:118:9
 returns-2 : tie.Need-returns-2
 returns-2 c = counts-less (c .before .before .before .get .ensures .0) (c .before .before .if1 .left) (c .before .group-strength .ensures .0) (c .if2 .taken) (c .before .before .before .before .before .before .pre .1 .1 .1)
 
--- src/named.rt:106:1
 returns-3 : tie.Need-returns-3
 returns-3 c = counts-more (c .before .before .before .get .ensures .0) (c .before .before .if1 .left) (c .before .group-strength .ensures .0) (c .if2 .left) (c .before .group-strength .ensures .1)
 

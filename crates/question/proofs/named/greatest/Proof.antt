@@ -1,3 +1,4 @@
+-- `question::named::greatest` meets its contract. Assumes nothing.
 use native.Mathlib.Omega.{arith}
 use mathlib.Core.Path.{_≡_}
 use Prim.Native.Nat.{_-_, _≤_}
@@ -6,9 +7,6 @@ use Rattle.question.specs.Named.{Best, best-none, best-more}
 use Rattle.stored.specs.Rows.{sized-few}
 use Rattle.question.proofs.named.greatest.Statement.{statement}
 use Rattle.question.proofs.named.greatest.Tie as tie
-use Rattle.question.proofs.named.greatest.Reads as reads
-use Rattle.question.proofs.named.greatest.Lts as lts
-use Rattle.question.proofs.named.better.Reads as better-reads
 
 abbrev Inv-loop : tie.InvT-loop
 Inv-loop s at w m count best₀ g₀ best g = (g ≤ count) × Best (graphIn s) m g best w
@@ -16,27 +14,21 @@ Inv-loop s at w m count best₀ g₀ best g = (g ≤ count) × Best (graphIn s) 
 abbrev μ-loop : tie.MeasureT-loop
 μ-loop s at w m count best₀ g₀ best g = count - g
 
--- src/named.rt:131:5
 loop-holds : tie.Need-loop-holds Inv-loop μ-loop
 loop-holds c = (omega arith, best-none)
 
--- src/named.rt:132:9
 better-requires : tie.Need-better-requires Inv-loop μ-loop
 better-requires c κs = (c .before .before .before .before .pre .0, (c .before .before .before .before .pre .1, (c .loop-test .taken, c .before .loop .inv .1 .small)))
 
--- src/named.rt:133:9
 add-g : tie.Need-add-g Inv-loop μ-loop
 add-g c = omega (arith, c .before .loop-test .taken, sized-few (c .before .before .before .before .before .pre .0) .0, sized-few (c .before .before .before .before .before .pre .0) .1)
 
--- src/named.rt:131:5
 loop-less : tie.Need-loop-less Inv-loop μ-loop
 loop-less c = omega (arith, c .before .loop-test .taken)
 
--- src/named.rt:131:5
 loop-again : tie.Need-loop-again Inv-loop μ-loop
 loop-again c = (omega (arith, c .before .loop-test .taken), best-more (c .before .before .loop .inv .1) (c .better .ensures))
 
--- src/named.rt:124:1
 returns : tie.Need-returns Inv-loop μ-loop
 returns c = let e : c .before .loop .g ≡ c .before .before .before .before .args .count = omega (arith, c .loop-test .left, c .before .loop .inv .0) in rw e at (c .before .loop .inv .1)
 

@@ -1,31 +1,23 @@
+-- `question::named::hold_named` meets its contract. Assumes nothing.
 use mathlib.Core.Path.{sym, _∙_}
 use Rattle.stored.specs.Rows.{graphIn}
 use Rattle.question.specs.Named.{good-names}
 use borrow.Author.Needs.{needs}
 use Rattle.question.proofs.named.hold_named.Statement.{statement}
 use Rattle.question.proofs.named.hold_named.Tie as tie
-use Rattle.question.proofs.named.hold_named.Reads as reads
-use Rattle.question.proofs.named.hold_named.Lts as lts
-use Rattle.holding.proofs.marks.hold.Reads as hold-reads
-use Rattle.question.proofs.named.names_fault.Reads as names-fault-reads
 
--- src/named.rt:166:9
 names-fault-requires : tie.Need-names-fault-requires
 names-fault-requires c κs = search needs
 
--- src/named.rt:168:9
 returns : tie.Need-returns
 returns c = record { fault = c .before .names-fault .ensures (graphIn (c .before .before .before .before .before .args .s .now)) (c .before .before .before .before .before .pre .0 .accounts); size-is = c .before .before .before .before .before .pre .1; held = λ z. absurd (c .if1 .taken z) }
 
--- src/named.rt:170:5
 hold-requires : tie.Need-hold-requires
 hold-requires c κs = let N = good-names (graphIn (c .before .before .before .before .before .before .args .s .now)) (c .before .before .before .before .before .before .pre .0 .accounts) (c .before .before .before .before .before .before .args .named .now) (c .before .before .names-fault .ensures (graphIn (c .before .before .before .before .before .before .args .s .now)) (c .before .before .before .before .before .before .pre .0 .accounts)) (c .before .if1 .left) in record { shape = c .before .before .before .before .before .before .pre .0; names = N .names; some = N .some; size-is = c .before .before .before .before .before .before .pre .1 }
 
--- src/named.rt:153:1
 same-length : tie.Need-same-length
 same-length c = search needs
 
--- src/named.rt:153:1
 returns-2 : tie.Need-returns-2
 returns-2 c = let F = c .before .before .before .before .before .names-fault .ensures (graphIn (c .before .before .before .before .before .before .before .before .before .args .s .now)) (c .before .before .before .before .before .before .before .before .before .pre .0 .accounts) in record { fault = sym (c .before .before .before .before .if1 .left) ∙ F; size-is = c .before .before .hold .ensures .size-is; held = λ z. (good-names (graphIn (c .before .before .before .before .before .before .before .before .before .args .s .now)) (c .before .before .before .before .before .before .before .before .before .pre .0 .accounts) (c .before .before .before .before .before .before .before .before .before .args .named .now) F (c .before .before .before .before .if1 .left), c .before .before .hold .ensures) }
 

@@ -1,25 +1,19 @@
+-- `question::named::keep_if` meets its contract. Assumes nothing.
 use mathlib.Core.Path.{refl}
 use Rattle.laws.proofs.Lists.{true-not-false}
 use borrow.Author.Needs.{needs}
 use Rattle.question.proofs.named.keep_if.Statement.{statement}
 use Rattle.question.proofs.named.keep_if.Tie as tie
-use Rattle.question.proofs.named.keep_if.Reads as reads
-use Rattle.question.proofs.named.keep_if.Lts as lts
-use Rattle.columns.proofs.put.Reads as put-reads
 
--- src/named.rt:68:9
 returns : tie.Need-returns
 returns c = record { stays = λ _. refl; goes = λ e. absurd (true-not-false (c .if1 .taken) e) }
 
--- src/named.rt:70:5
 put-requires : tie.Need-put-requires
 put-requires c κs = search needs
 
--- src/named.rt:62:1
 same-length : tie.Need-same-length
 same-length c = search needs
 
--- src/named.rt:62:1
 returns-2 : tie.Need-returns-2
 returns-2 c = record { stays = λ e. absurd (true-not-false e (c .before .before .before .before .if1 .left)); goes = λ _. c .before .before .put .ensures }
 

@@ -1,3 +1,4 @@
+-- `question::named::keep_strongest` meets its contract. Assumes nothing.
 use native.Mathlib.Omega.{arith}
 use mathlib.Core.Path.{sym, _∙_}
 use Prim.Native.Nat.{_-_, _≤_}
@@ -5,10 +6,6 @@ use Rattle.question.specs.Named.{KeepState, AsStrong, keep-none, keep-mo
 use Rattle.stored.specs.Rows.{sized-few}
 use Rattle.question.proofs.named.keep_strongest.Statement.{statement}
 use Rattle.question.proofs.named.keep_strongest.Tie as tie
-use Rattle.question.proofs.named.keep_strongest.Reads as reads
-use Rattle.question.proofs.named.keep_strongest.Lts as lts
-use Rattle.question.proofs.named.keep_if.Reads as keep-if-reads
-use Rattle.stored.proofs.rows.group_strength.Reads as group-strength-reads
 
 abbrev Inv-loop : tie.InvT-loop
 Inv-loop s at w₀ m count best g₀ w g = (g ≤ count) × KeepState s m count g (AsStrong s best) w₀ w
@@ -16,35 +13,27 @@ Inv-loop s at w₀ m count best g₀ w g = (g ≤ count) × KeepState s m count 
 abbrev μ-loop : tie.MeasureT-loop
 μ-loop s at w₀ m count best g₀ w g = count - g
 
--- src/named.rt:145:5
 loop-holds : tie.Need-loop-holds Inv-loop μ-loop
 loop-holds c = (omega arith, keep-none (c .before .before .pre .1))
 
--- src/named.rt:146:13
 group-strength-requires : tie.Need-group-strength-requires Inv-loop μ-loop
 group-strength-requires c κs = (c .before .before .before .before .pre .0 .groups-at, omega (arith, c .loop-test .taken, c .before .before .before .before .pre .0 .groups))
 
--- src/named.rt:147:9
 keep-if-requires : tie.Need-keep-if-requires Inv-loop μ-loop
 keep-if-requires c κs = (c .before .before .before .loop .inv .1 .size-is, omega (arith, c .before .before .loop-test .taken, sized-few (c .before .before .before .before .before .before .pre .0) .0))
 
--- src/named.rt:148:9
 add-g : tie.Need-add-g Inv-loop μ-loop
 add-g c = omega (arith, c .before .before .before .before .before .loop-test .taken, sized-few (c .before .before .before .before .before .before .before .before .before .pre .0) .0, sized-few (c .before .before .before .before .before .before .before .before .before .pre .0) .1)
 
--- src/named.rt:145:5
 loop-less : tie.Need-loop-less Inv-loop μ-loop
 loop-less c = omega (arith, c .before .before .before .before .before .loop-test .taken)
 
--- src/named.rt:145:5
 loop-again : tie.Need-loop-again Inv-loop μ-loop
 loop-again c = (omega (arith, c .before .before .before .before .before .loop-test .taken), keep-more (c .before .before .before .before .before .before .before .before .before .pre .0) (c .before .before .before .before .before .loop-test .taken) (c .before .before .before .before .before .before .loop .inv .1) (strong-tells (c .before .before .before .before .before .before .before .before .before .args .s .now) (c .before .before .before .before .before .before .loop .g) (c .before .before .before .before .group-strength .ensures .0)) (c .before .before .keep-if .ensures))
 
--- src/named.rt:139:1
 same-length : tie.Need-same-length Inv-loop μ-loop
 same-length c = c .before .loop .inv .1 .size-is ∙ sym (c .before .before .before .before .pre .1)
 
--- src/named.rt:139:1
 returns : tie.Need-returns Inv-loop μ-loop
 returns c = strongest-done (c .loop-test .left) (c .before .loop .inv .1)
 

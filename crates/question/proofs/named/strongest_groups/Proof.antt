@@ -1,3 +1,4 @@
+-- `question::named::strongest_groups` meets its contract. Assumes nothing.
 use Rattle.truss.specs.Question.{ask-strongest}
 use Rattle.stored.specs.Rows.{graphIn}
 use Rattle.question.specs.Replies.{answer-refused, answer-numbers}
@@ -6,51 +7,34 @@ use Rattle.question.specs.Named.{D-fault, D-is, D-marked}
 use borrow.Author.Needs.{needs}
 use Rattle.question.proofs.named.strongest_groups.Statement.{statement}
 use Rattle.question.proofs.named.strongest_groups.Tie as tie
-use Rattle.question.proofs.named.strongest_groups.Reads as reads
-use Rattle.question.proofs.named.strongest_groups.Lts as lts
-use Rattle.index.proofs.answered.Reads as answered-reads
-use Rattle.question.proofs.lists.give.Reads as give-reads
-use Rattle.question.proofs.named.greatest.Reads as greatest-reads
-use Rattle.question.proofs.named.hold_named.Reads as hold-named-reads
-use Rattle.question.proofs.named.keep_strongest.Reads as keep-strongest-reads
 
--- src/named.rt:219:9
 hold-named-requires : tie.Need-hold-named-requires
 hold-named-requires c κs = search needs
 
--- src/named.rt:221:9
 answered-requires : tie.Need-answered-requires
 answered-requires c κs = search needs
 
--- src/named.rt:221:9
 same-length : tie.Need-same-length
 same-length c = search needs
 
--- src/named.rt:221:9
 returns : tie.Need-returns
 returns c = answer-refused (graphIn (c .before .before .before .before .before .before .before .before .before .before .args .s .now)) (ask-strongest (c .before .before .before .before .before .before .before .before .before .before .args .named .now)) (c .before .before .before .before .before .before .before .before .before .before .args .out .now) (D-fault (graphIn (c .before .before .before .before .before .before .before .before .before .before .args .s .now)) (c .before .before .before .before .before .before .before .before .before .before .pre .0 .accounts) (c .before .before .before .before .before .before .before .before .before .before .args .named .now) (c .before .before .before .before .hold-named .ensures .fault) (c .before .if1 .taken)) (c .answered .ensures)
 
--- src/named.rt:223:9
 greatest-requires : tie.Need-greatest-requires
 greatest-requires c κs = (record { groups-at = c .before .before .before .before .before .before .before .before .before .before .pre .0 .groups-at; links = c .before .before .before .before .before .before .before .before .before .before .pre .0 .links; groups = c .before .before .before .before .before .before .before .before .before .before .pre .0 .groups }, c .before .before .before .before .hold-named .ensures .size-is)
 
--- src/named.rt:224:5
 keep-strongest-requires : tie.Need-keep-strongest-requires
 keep-strongest-requires c κs = (record { groups-at = c .before .before .before .before .before .before .before .before .before .before .before .before .pre .0 .groups-at; links = c .before .before .before .before .before .before .before .before .before .before .before .before .pre .0 .links; groups = c .before .before .before .before .before .before .before .before .before .before .before .before .pre .0 .groups }, c .before .before .before .before .before .before .hold-named .ensures .size-is)
 
--- src/named.rt:225:5
 give-requires : tie.Need-give-requires
 give-requires c κs = record { size-is = c .before .before .before .before .keep-strongest .ensures .size-is; part = shape-few (c .before .before .before .before .before .before .before .before .before .before .before .before .before .before .before .before .before .pre .0) .0; few = shape-few (c .before .before .before .before .before .before .before .before .before .before .before .before .before .before .before .before .before .pre .0) .1 }
 
--- src/named.rt:205:1
 same-length-2 : tie.Need-same-length-2
 same-length-2 c = search needs
 
--- src/named.rt:205:1
 same-length-3 : tie.Need-same-length-3
 same-length-3 c = search needs
 
--- src/named.rt:205:1
 returns-2 : tie.Need-returns-2
 returns-2 c = answer-numbers (graphIn (c .before .before .before .before .before .before .before .before .before .before .before .before .before .before .before .before .before .before .before .before .args .s .now)) (ask-strongest (c .before .before .before .before .before .before .before .before .before .before .before .before .before .before .before .before .before .before .before .before .args .named .now)) (c .before .before .before .before .before .before .before .before .before .before .before .before .before .before .before .before .before .before .before .before .args .out .now) (D-is ((c .before .before .before .before .before .before .before .before .before .before .before .before .before .before .hold-named .ensures .held (c .before .before .before .before .before .before .before .before .before .before .before .if1 .left)) .0) (D-marked _ (c .before .before .before .before .before .before .before .before .before .before .before .before .before .before .before .before .before .before .before .before .pre .0 .groups) ((c .before .before .before .before .before .before .before .before .before .before .before .before .before .before .hold-named .ensures .held (c .before .before .before .before .before .before .before .before .before .before .before .if1 .left)) .1) (c .before .before .before .before .before .before .before .before .before .greatest .ensures) (c .before .before .before .before .before .before .before .keep-strongest .ensures .marks (c .before .before .before .before .before .before .before .before .before .before .before .before .before .before .before .before .before .before .before .before .args .named .now) ((c .before .before .before .before .before .before .before .before .before .before .before .before .before .before .hold-named .ensures .held (c .before .before .before .before .before .before .before .before .before .before .before .if1 .left)) .1)))) (c .before .before .give .ensures)
 

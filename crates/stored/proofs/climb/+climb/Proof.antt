@@ -1,3 +1,4 @@
+-- `stored::climb::climb` meets its contract. Assumes nothing.
 use Prim.Native.Nat.{_-_}
 use native.Mathlib.Omega.{arith}
 use Rattle.stored.specs.Climb.{climb-top, climb-weak, parent-in, climb-on, climb-falls, climbed-on}
@@ -21,7 +22,6 @@ climb-at t = and 1 climb-kinds.ps (is 1 climb-kinds.ps μ-climb t) climb.Pre
 abbrev climb-below : ℕ → In 1 climb-kinds.ps
 climb-below t = and 1 climb-kinds.ps (falls 1 climb-kinds.ps _<_ μ-climb t) climb.Pre
 
--- src/climb.rt:21:9
 climb-group-parent-requires : (t : ℕ) → climb-lts.Need-group-parent-requires (
   group-parent-reads.Asked,
   group-parent-reads.Learnt,
@@ -32,7 +32,6 @@ climb-group-parent-requires : (t : ℕ) → climb-lts.Need-group-parent-requires
 ) (climb-at t) climb.Post
 climb-group-parent-requires t c κs = (c .before .pre .1 .groups-at, omega (arith, c .before .pre .1 .in-range, c .before .pre .1 .groups))
 
--- src/climb.rt:23:9
 climb-returns : (t : ℕ) → climb-lts.Need-returns (
   group-parent-reads.Asked,
   group-parent-reads.Learnt,
@@ -43,7 +42,6 @@ climb-returns : (t : ℕ) → climb-lts.Need-returns (
 ) (climb-at t) climb.Post
 climb-returns t c = climb-top (c .before .before .before .pre .1) (c .before .group-parent .ensures) (c .if1 .taken)
 
--- src/climb.rt:25:8
 climb-group-strength-requires : (t : ℕ) → climb-lts.Need-group-strength-requires (
   group-parent-reads.Asked,
   group-parent-reads.Learnt,
@@ -54,7 +52,6 @@ climb-group-strength-requires : (t : ℕ) → climb-lts.Need-group-strength-requ
 ) (climb-at t) climb.Post
 climb-group-strength-requires t c κs = (c .before .before .before .pre .1 .groups-at, parent-in (c .before .before .before .pre .1) (c .before .group-parent .ensures) (c .if1 .left))
 
--- src/climb.rt:26:9
 climb-returns-2 : (t : ℕ) → climb-lts.Need-returns-2 (
   group-parent-reads.Asked,
   group-parent-reads.Learnt,
@@ -65,7 +62,6 @@ climb-returns-2 : (t : ℕ) → climb-lts.Need-returns-2 (
 ) (climb-at t) climb.Post
 climb-returns-2 t c = climb-weak (c .before .before .before .before .before .pre .1) (c .before .before .before .group-parent .ensures) (c .before .group-strength .ensures .0) (c .if2 .taken)
 
--- src/climb.rt:28:5
 climb-climb-requires : (t : ℕ) → climb-lts.Need-climb-requires (
   group-parent-reads.Asked,
   group-parent-reads.Learnt,
@@ -76,7 +72,6 @@ climb-climb-requires : (t : ℕ) → climb-lts.Need-climb-requires (
 ) (climb-at t) climb.Post
 climb-climb-requires t c κs = (omega (arith, c .before .before .before .before .before .pre .0, climb-falls (c .before .before .before .before .before .pre .1) (c .before .before .before .group-parent .ensures) (c .before .before .if1 .left)), climb-on (c .before .before .before .before .before .pre .1) (c .before .before .before .group-parent .ensures) (c .before .before .if1 .left) (c .before .group-strength .ensures .0) (c .if2 .left))
 
--- src/climb.rt:17:1
 climb-returns-3 : (t : ℕ) → climb-lts.Need-returns-3 (
   group-parent-reads.Asked,
   group-parent-reads.Learnt,

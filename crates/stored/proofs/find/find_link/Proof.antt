@@ -1,3 +1,4 @@
+-- `stored::find::find_link` meets its contract. Assumes nothing.
 use mathlib.Core.Path.{_∙_, ap}
 use Rattle.truss.specs.Graph.{linkNumber}
 use Rattle.stored.specs.Rows.{graphIn}
@@ -5,23 +6,16 @@ use Rattle.stored.specs.Find.{link-lower-first, link-higher-first}
 use borrow.Author.Needs.{needs}
 use Rattle.stored.proofs.find.find_link.Statement.{statement}
 use Rattle.stored.proofs.find.find_link.Tie as tie
-use Rattle.stored.proofs.find.find_link.Reads as reads
-use Rattle.stored.proofs.find.find_link.Lts as lts
-use Rattle.stored.proofs.find.find_pair.Reads as find-pair-reads
 
--- src/find.rt:45:9
 find-pair-requires : tie.Need-find-pair-requires
 find-pair-requires c κs = search needs
 
--- src/find.rt:45:9
 returns : tie.Need-returns
 returns c = c .find-pair .ensures ∙ ap (linkNumber (graphIn (c .before .before .before .args .s .now))) (link-lower-first (c .before .before .before .args .a) (c .before .before .before .args .b) (c .before .if1 .taken))
 
--- src/find.rt:47:5
 find-pair-requires-2 : tie.Need-find-pair-requires-2
 find-pair-requires-2 c κs = search needs
 
--- src/find.rt:39:1
 returns-2 : tie.Need-returns-2
 returns-2 c = c .find-pair2 .ensures ∙ ap (linkNumber (graphIn (c .before .before .before .args .s .now))) (link-higher-first (c .before .before .before .args .a) (c .before .before .before .args .b) (c .before .if1 .left))
 

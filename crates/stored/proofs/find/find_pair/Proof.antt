@@ -1,3 +1,4 @@
+-- `stored::find::find_pair` meets its contract. Assumes nothing.
 use mathlib.Core.Path.{sym, _∙_}
 use Prim.Native.Nat.{_-_, _≤_}
 use native.Mathlib.Omega.{arith}
@@ -6,9 +7,6 @@ use Rattle.stored.specs.Rows.{few-links}
 use Rattle.stored.specs.Find.{NotBefore, before-none, before-more, found-is, none-is}
 use Rattle.stored.proofs.find.find_pair.Statement.{statement}
 use Rattle.stored.proofs.find.find_pair.Tie as tie
-use Rattle.stored.proofs.find.find_pair.Reads as reads
-use Rattle.stored.proofs.find.find_pair.Lts as lts
-use Rattle.stored.proofs.find.has_ends.Reads as has-ends-reads
 
 abbrev Inv-loop : tie.InvT-loop
 Inv-loop s m lo hi i₀ i = (i ≤ m) × NotBefore (graphIn s) lo hi i
@@ -16,31 +14,24 @@ Inv-loop s m lo hi i₀ i = (i ≤ m) × NotBefore (graphIn s) lo hi i
 abbrev μ-loop : tie.MeasureT-loop
 μ-loop s m lo hi i₀ i = m - i
 
--- src/find.rt:29:5
 loop-holds : tie.Need-loop-holds Inv-loop μ-loop
 loop-holds c = (omega arith, before-none (graphIn (c .before .args .s .now)) (c .before .args .lo) (c .before .args .hi))
 
--- src/find.rt:30:12
 has-ends-requires : tie.Need-has-ends-requires Inv-loop μ-loop
 has-ends-requires c κs = (c .before .before .before .pre .0, omega (arith, c .before .before .before .pre .1, c .loop-test .taken))
 
--- src/find.rt:31:13
 returns : tie.Need-returns Inv-loop μ-loop
 returns c = found-is (graphIn (c .before .before .before .before .before .args .s .now)) (c .before .before .before .before .before .args .lo) (c .before .before .before .before .before .args .hi) (omega (arith, c .before .before .before .before .before .pre .1, c .before .before .loop-test .taken)) (c .before .before .before .loop .inv .1) (sym (c .before .has-ends .ensures) ∙ c .if1 .taken)
 
--- src/find.rt:33:9
 add-i : tie.Need-add-i Inv-loop μ-loop
 add-i c = omega (arith, c .before .before .before .before .before .pre .1, few-links (c .before .before .before .before .before .pre .0), c .before .before .loop-test .taken)
 
--- src/find.rt:29:5
 loop-less : tie.Need-loop-less Inv-loop μ-loop
 loop-less c = omega (arith, c .before .before .loop-test .taken)
 
--- src/find.rt:29:5
 loop-again : tie.Need-loop-again Inv-loop μ-loop
 loop-again c = (omega (arith, c .before .before .loop-test .taken), before-more (graphIn (c .before .before .before .before .before .args .s .now)) (c .before .before .before .before .before .args .lo) (c .before .before .before .before .before .args .hi) (c .before .before .before .loop .inv .1) (sym (c .before .has-ends .ensures) ∙ c .if1 .left))
 
--- src/find.rt:23:1
 returns-2 : tie.Need-returns-2 Inv-loop μ-loop
 returns-2 c = none-is (graphIn (c .before .before .before .args .s .now)) (c .before .before .before .args .lo) (c .before .before .before .args .hi) (c .before .before .before .pre .1) (c .loop-test .left) (c .before .loop .inv .1)
 

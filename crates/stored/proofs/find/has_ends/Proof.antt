@@ -1,26 +1,19 @@
+-- `stored::find::has_ends` meets its contract. Assumes nothing.
 use Rattle.stored.specs.Rows.{graphIn}
 use Rattle.stored.specs.Find.{other-lower, by-higher}
 use borrow.Author.Needs.{needs}
 use Rattle.stored.proofs.find.has_ends.Statement.{statement}
 use Rattle.stored.proofs.find.has_ends.Tie as tie
-use Rattle.stored.proofs.find.has_ends.Reads as reads
-use Rattle.stored.proofs.find.has_ends.Lts as lts
-use Rattle.stored.proofs.rows.link_higher.Reads as link-higher-reads
-use Rattle.stored.proofs.rows.link_lower.Reads as link-lower-reads
 
--- src/find.rt:16:8
 link-lower-requires : tie.Need-link-lower-requires
 link-lower-requires c κs = search needs
 
--- src/find.rt:17:9
 returns : tie.Need-returns
 returns c = other-lower (graphIn (c .before .before .before .args .s .now)) (c .before .before .before .args .lo) (c .before .before .before .args .hi) (c .before .before .before .args .i) (c .before .link-lower .ensures) (c .if1 .taken)
 
--- src/find.rt:19:5
 link-higher-requires : tie.Need-link-higher-requires
 link-higher-requires c κs = search needs
 
--- src/find.rt:11:1
 returns-2 : tie.Need-returns-2
 returns-2 c = by-higher (graphIn (c .before .before .before .before .args .s .now)) (c .before .before .before .before .args .lo) (c .before .before .before .before .args .hi) (c .before .before .before .before .args .i) (c .before .before .link-lower .ensures) (c .before .if1 .left) (c .link-higher .ensures)
 

@@ -1,3 +1,4 @@
+-- `stored::rows::group_least` meets its contract. Assumes nothing.
 use native.Mathlib.Omega.{arith}
 use mathlib.Core.Path.{_∙_, ap}
 use Prim.Native.Nat.{ℕ, _+_, _*_}
@@ -5,27 +6,19 @@ use Rattle.truss.specs.Record.{fieldAt}
 use Rattle.stored.specs.Rows.{few, few-links, group-room, least-is}
 use Rattle.stored.proofs.rows.group_least.Statement.{statement}
 use Rattle.stored.proofs.rows.group_least.Tie as tie
-use Rattle.stored.proofs.rows.group_least.Reads as reads
-use Rattle.stored.proofs.rows.group_least.Lts as lts
-use Rattle.wire.proofs.field_at.Reads as field-at-reads
 
--- src/rows.rt:57:22
 mul-field-at : tie.Need-mul-field-at
 mul-field-at c = omega (arith, few-links (c .before .pre .0 .is-index), few (c .before .pre .0 .is-index), c .before .pre .1)
 
--- src/rows.rt:57:17
 add-field-at : tie.Need-add-field-at
 add-field-at c = omega (arith, c .before .pre .0 .place, group-room (c .before .pre .0 .is-index) (c .before .args .g) (c .before .pre .1))
 
--- src/rows.rt:57:17
 add-field-at-2 : tie.Need-add-field-at-2
 add-field-at-2 c = omega (arith, c .before .pre .0 .place, group-room (c .before .pre .0 .is-index) (c .before .args .g) (c .before .pre .1))
 
--- src/rows.rt:57:5
 field-at-requires : tie.Need-field-at-requires
 field-at-requires c κs = omega (arith, c .before .pre .0 .place, group-room (c .before .pre .0 .is-index) (c .before .args .g) (c .before .pre .1))
 
--- src/rows.rt:52:1
 returns : tie.Need-returns
 returns c = c .field-at .ensures .0 ∙ ap (λ (x : ℕ). fieldAt (c .before .before .args .s .now) (x + 6 * c .before .before .args .g + 4)) (c .before .before .pre .0 .place) ∙ least-is (c .before .before .pre .0 .is-index) (c .before .before .args .g) (c .before .before .pre .1)
 

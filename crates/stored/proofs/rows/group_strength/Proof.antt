@@ -1,3 +1,4 @@
+-- `stored::rows::group_strength` meets its contract. Assumes nothing.
 use native.Mathlib.Omega.{arith}
 use mathlib.Core.Path.{_∙_, ap}
 use Prim.Native.Nat.{ℕ, _+_, _*_}
@@ -6,31 +7,22 @@ use Rattle.stored.specs.Rows.{few, few-links, group-room, group-strength
 use borrow.Author.Needs.{needs}
 use Rattle.stored.proofs.rows.group_strength.Statement.{statement}
 use Rattle.stored.proofs.rows.group_strength.Tie as tie
-use Rattle.stored.proofs.rows.group_strength.Reads as reads
-use Rattle.stored.proofs.rows.group_strength.Lts as lts
-use Rattle.wire.proofs.wide.Reads as wide-reads
 
--- src/rows.rt:66:17
 mul-wide : tie.Need-mul-wide
 mul-wide c = omega (arith, few-links (c .before .pre .0 .is-index), few (c .before .pre .0 .is-index), c .before .pre .1)
 
--- src/rows.rt:66:12
 add-wide : tie.Need-add-wide
 add-wide c = omega (arith, c .before .pre .0 .place, group-room (c .before .pre .0 .is-index) (c .before .args .g) (c .before .pre .1))
 
--- src/rows.rt:66:12
 add-wide-2 : tie.Need-add-wide-2
 add-wide-2 c = omega (arith, c .before .pre .0 .place, group-room (c .before .pre .0 .is-index) (c .before .args .g) (c .before .pre .1))
 
--- src/rows.rt:66:10
 shared-slice-read-wide : tie.Need-shared-slice-read-wide
 shared-slice-read-wide c = omega (arith, c .before .before .pre .0 .place, group-room (c .before .before .pre .0 .is-index) (c .before .before .args .g) (c .before .before .pre .1))
 
--- src/rows.rt:66:5
 wide-requires : tie.Need-wide-requires
 wide-requires c κs = search needs
 
--- src/rows.rt:61:1
 returns : tie.Need-returns
 returns c = (c .wide .ensures .0 ∙ ap (λ (x : ℕ). byteAt (c .before .before .before .args .s .now) (x + 6 * c .before .before .before .args .g + 3)) (c .before .before .before .pre .0 .place) ∙ group-strength-is (c .before .before .before .pre .0 .is-index) (c .before .before .before .args .g) (c .before .before .before .pre .1), c .wide .ensures .1)
 

@@ -1,29 +1,22 @@
+-- `stored::rows::link_group` meets its contract. Assumes nothing.
 use native.Mathlib.Omega.{arith}
 use mathlib.Core.Path.{_∙_}
 use Rattle.stored.specs.Rows.{few-links, link-room, own-group-is}
 use Rattle.stored.proofs.rows.link_group.Statement.{statement}
 use Rattle.stored.proofs.rows.link_group.Tie as tie
-use Rattle.stored.proofs.rows.link_group.Reads as reads
-use Rattle.stored.proofs.rows.link_group.Lts as lts
-use Rattle.wire.proofs.field_at.Reads as field-at-reads
 
--- src/rows.rt:48:21
 mul-field-at : tie.Need-mul-field-at
 mul-field-at c = omega (arith, few-links (c .before .pre .0), c .before .pre .1)
 
--- src/rows.rt:48:17
 add-field-at : tie.Need-add-field-at
 add-field-at c = omega (arith, few-links (c .before .pre .0), c .before .pre .1)
 
--- src/rows.rt:48:17
 add-field-at-2 : tie.Need-add-field-at-2
 add-field-at-2 c = omega (arith, few-links (c .before .pre .0), c .before .pre .1)
 
--- src/rows.rt:48:5
 field-at-requires : tie.Need-field-at-requires
 field-at-requires c κs = omega (arith, link-room (c .before .pre .0) (c .before .args .i) (c .before .pre .1))
 
--- src/rows.rt:43:1
 returns : tie.Need-returns
 returns c = c .field-at .ensures .0 ∙ own-group-is (c .before .before .pre .0) (c .before .before .args .i) (c .before .before .pre .1)
 

@@ -1,34 +1,26 @@
+-- `stored::rows::link_strength` meets its contract. Assumes nothing.
 use native.Mathlib.Omega.{arith}
 use mathlib.Core.Path.{_∙_}
 use Rattle.stored.specs.Rows.{few-links, link-room, strength-is}
 use borrow.Author.Needs.{needs}
 use Rattle.stored.proofs.rows.link_strength.Statement.{statement}
 use Rattle.stored.proofs.rows.link_strength.Tie as tie
-use Rattle.stored.proofs.rows.link_strength.Reads as reads
-use Rattle.stored.proofs.rows.link_strength.Lts as lts
-use Rattle.wire.proofs.wide.Reads as wide-reads
 
--- src/rows.rt:39:16
 mul-wide : tie.Need-mul-wide
 mul-wide c = omega (arith, few-links (c .before .pre .0), c .before .pre .1)
 
--- src/rows.rt:39:12
 add-wide : tie.Need-add-wide
 add-wide c = omega (arith, few-links (c .before .pre .0), c .before .pre .1)
 
--- src/rows.rt:39:12
 add-wide-2 : tie.Need-add-wide-2
 add-wide-2 c = omega (arith, few-links (c .before .pre .0), c .before .pre .1)
 
--- src/rows.rt:39:10
 shared-slice-read-wide : tie.Need-shared-slice-read-wide
 shared-slice-read-wide c = omega (arith, link-room (c .before .before .pre .0) (c .before .before .args .i) (c .before .before .pre .1))
 
--- src/rows.rt:39:5
 wide-requires : tie.Need-wide-requires
 wide-requires c κs = search needs
 
--- src/rows.rt:34:1
 returns : tie.Need-returns
 returns c = (c .wide .ensures .0 ∙ strength-is (c .before .before .before .pre .0) (c .before .before .before .args .i) (c .before .before .before .pre .1), c .wide .ensures .1)
 

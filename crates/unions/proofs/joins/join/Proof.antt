@@ -5,11 +5,6 @@ use Rattle.unions.specs.Joins.{join-in, join-find, join-find-next, join-
 use borrow.Author.Needs.{needs}
 use Rattle.unions.proofs.joins.join.Statement.{statement}
 use Rattle.unions.proofs.joins.join.Tie as tie
-use Rattle.unions.proofs.joins.join.Reads as reads
-use Rattle.unions.proofs.joins.join.Lts as lts
-use Rattle.columns.proofs.get.Reads as get-reads
-use Rattle.unions.proofs.joins.unite.Reads as unite-reads
-use Rattle.unions.proofs.roots.find.Reads as find-reads
 
 get-requires : tie.Need-get-requires
 get-requires c κs = (omega arith, (join-in (c .before .before .pre .2) .0, c .before .before .pre .2 .growth .given .size-is))

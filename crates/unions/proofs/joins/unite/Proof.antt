@@ -3,11 +3,6 @@ use mathlib.Core.Path.{refl, _∙_}
 use borrow.Author.Needs.{needs}
 use Rattle.unions.proofs.joins.unite.Statement.{statement}
 use Rattle.unions.proofs.joins.unite.Tie as tie
-use Rattle.unions.proofs.joins.unite.Reads as reads
-use Rattle.unions.proofs.joins.unite.Lts as lts
-use Rattle.columns.proofs.put.Reads as put-reads
-use Rattle.unions.proofs.joins.greater.Reads as greater-reads
-use Rattle.unions.proofs.joins.lesser.Reads as lesser-reads
 
 lesser-requires : tie.Need-lesser-requires
 lesser-requires c κs = search needs

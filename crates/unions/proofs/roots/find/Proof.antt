@@ -5,10 +5,6 @@ use Rattle.unions.specs.Find.{Finding, finding-first, finding-halve, fin
 use borrow.Author.Needs.{needs}
 use Rattle.unions.proofs.roots.find.Statement.{statement}
 use Rattle.unions.proofs.roots.find.Tie as tie
-use Rattle.unions.proofs.roots.find.Reads as reads
-use Rattle.unions.proofs.roots.find.Lts as lts
-use Rattle.columns.proofs.get.Reads as get-reads
-use Rattle.unions.proofs.roots.halve.Reads as halve-reads
 
 abbrev Inv-loop : tie.InvT-loop
 Inv-loop w₀ m from x₀ p₀ w x p = Finding m from x p w₀ w

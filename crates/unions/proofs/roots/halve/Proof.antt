@@ -4,10 +4,6 @@ use Rattle.unions.specs.Find.{halve-near, halve-done}
 use borrow.Author.Needs.{needs}
 use Rattle.unions.proofs.roots.halve.Statement.{statement}
 use Rattle.unions.proofs.roots.halve.Tie as tie
-use Rattle.unions.proofs.roots.halve.Reads as reads
-use Rattle.unions.proofs.roots.halve.Lts as lts
-use Rattle.columns.proofs.get.Reads as get-reads
-use Rattle.columns.proofs.put.Reads as put-reads
 
 get-requires : tie.Need-get-requires
 get-requires c κs = (omega arith, (halve-near ((c .before .before .pre)), c .before .before .pre .find .size))
