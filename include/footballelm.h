@@ -25,8 +25,9 @@ typedef struct {
 /* Bytes of a desk record that the calls use. */
 #define FE_DESK 4
 
-/* Bytes of stack that are enough for any call, below the caller's frame. Measured by tests/c/stack.c, not proved: fe_build took 147,879 of them, fe_read 139,767,
- * a question up to 140,167. A thread needs this and what its own functions and the C library take. */
+/* Bytes of stack that are enough for any call, below the caller's frame. Measured by tests/c/stack.c, not proved: fe_build took 151,991 of them, fe_read 143,879,
+ * a question up to 144,279, and the first call of a program that binds memset only then 3,152 more. A thread needs this and what its own functions and the C library
+ * take. */
 #define FE_STACK_MAX 163840
 
 /* Every call:
