@@ -1,10 +1,11 @@
--- Columns at zero: what `wipe_range`, `wipe` and `wipe_all` do. Assumes nothing.
+-- Columns and rows at zero: what `wipe_range`, `wipe`, `wipe_all` and `zero` do. Assumes nothing.
 use mathlib.Core.Path.{_≡_, refl, sym, _∙_}
 use mathlib.Core.Logic.{_⊎_, inl, inr, _≢_}
 use mathlib.Core.List.{List}
 use Prim.Native.Nat.{ℕ, _+_, _*_, _-_, _≤_, _<_}
 use native.Mathlib.Omega.{arith}
-use lib.ListN.{length}
+use lib.ListN.{length, getD, set, length-set}
+use lib.Seq.{getD-set-same, getD-set-other}
 use Rattle.columns.specs.Columns.{cell, store, COLUMNS}
 use Rattle.laws.proofs.Numbers.{same-or-not}
 use Rattle.columns.specs.Laws.{stored, kept-entry, kept-column, length-store}
@@ -72,3 +73,30 @@ cleaned-more {m} {from} {c} {w₀} {w} {w′} fc C W = record {
 
 pub cleaned-all : {m from c until : ℕ} {w w′ : List ℕ} → c ≡ until → Cleaned m from c w w′ → Cleaned m from until w w′
 cleaned-all q h = rw q at h
+
+-- ---- the first n entries of an account-sized row at 0, the others as they were
+
+abbrev pub Zeros : ℕ → List ℕ → Type 0
+Zeros n s = (a : ℕ) → a < n → getD s a 0 ≡ 0
+
+pub record Zeroed (n : ℕ) (s s′ : List ℕ) : Type 0 where
+  pub length-is : length s′ ≡ length s
+  pub zero : Zeros n s′
+  pub after : (a : ℕ) → n ≤ a → getD s′ a 0 ≡ getD s a 0
+
+pub zeroed-none : (s : List ℕ) → Zeroed 0 s s
+zeroed-none s = record { length-is = refl; zero = λ a l. absurd (omega arith); after = λ a l. refl }
+
+pub zeroed-more : {n : ℕ} {s₀ s : List ℕ} → Zeroed n s₀ s → n < length s₀ → Zeroed (n + 1) s₀ (set s n 0)
+zeroed-more {n} {s₀} {s} Z l = record {
+  length-is = length-set s n 0 ∙ Z .length-is;
+  zero = λ a k. go a k (same-or-not a n);
+  after = λ a k. getD-set-other s n a 0 0 (omega arith) ∙ Z .after a (omega arith);
+}
+  where
+    go : (a : ℕ) → a < n + 1 → (a ≡ n) ⊎ (a ≢ n) → getD (set s n 0) a 0 ≡ 0
+    go a k (inl e) = rw e (getD-set-same s n 0 0 (omega (arith, l, Z .length-is)))
+    go a k (inr e) = getD-set-other s n a 0 0 e ∙ Z .zero a (omega arith)
+
+pub zeroed-all : {i n : ℕ} {s s′ : List ℕ} → i ≡ n → Zeroed i s s′ → Zeroed n s s′
+zeroed-all q z = rw q at z

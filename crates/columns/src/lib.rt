@@ -2,8 +2,8 @@
 ghost use Prim.Native.Nat.{_+_, _*_, _<_, _≤_};
 ghost use mathlib.Core.Path.{_≡_};
 ghost use lib.ListN.{length, getD};
-ghost use Rattle.columns.specs.Columns.{cell, store, entry, storeEntry, COLUMNS, mostLinks, entryBound};
-ghost use Rattle.columns.specs.Wiping.{Wiped, Wiping, Cleaned};
+ghost use Rattle.columns.specs.Columns.{cell, store, entry, storeEntry, COLUMNS, mostLinks, mostAccounts, entryBound};
+ghost use Rattle.columns.specs.Wiping.{Wiped, Wiping, Cleaned, Zeroed};
 
 // What each column holds while strengths are computed. Columns 1 and 2 are one, of two entries for each link.
 pub const KEY: usize = 0;
@@ -142,5 +142,18 @@ pub fn wipe_all(w: &mut [u32], m: usize, from: usize, until: usize)
     while c < until {
         wipe(w, m, c);
         c += 1;
+    }
+}
+
+// The first n entries of an account-sized row at 0.
+pub fn zero(s: &mut [u32], n: usize)
+    requires { ⌜ n ≤ length (now s) ⌝ }
+    requires { ⌜ n ≤ mostAccounts ⌝ }
+    ensures { λ _. ⌜ Zeroed n (now (s .entry)) (now (s .exit)) ⌝ }
+{
+    let mut a: usize = 0;
+    while a < n {
+        s[a] = 0;
+        a += 1;
     }
 }

@@ -10,6 +10,7 @@ use lib.Seq.{getD-set-same, getD-set-other}
 use Rattle.truss.specs.Record.{fieldAt}
 use Rattle.truss.specs.Question.{accountsIn}
 use Rattle.laws.proofs.Numbers.{same-or-not}
+use Rattle.columns.specs.Wiping.{Zeros}
 
 abbrev pub rankIn : List ℕ → ℕ → ℕ
 rankIn ranks v = getD ranks v 0
@@ -17,21 +18,6 @@ rankIn ranks v = getD ranks v 0
 -- v is among the first j accounts that are named
 abbrev pub Before : List ℕ → ℕ → ℕ → Type 0
 Before named j v = (t : ℕ) × (t < j) × (v ≡ fieldAt named (2 * t))
-
--- no account from 0 up to v has a rank
-pub record NoRanks (size v : ℕ) (ranks : List ℕ) : Type 0 where
-  pub length-is : length ranks ≡ size
-  pub zero-is : (u : ℕ) → u < v → rankIn ranks u ≡ 0
-
-pub no-ranks : {size : ℕ} {ranks : List ℕ} → length ranks ≡ size → NoRanks size 0 ranks
-no-ranks q = record { length-is = q; zero-is = λ u l. absurd (omega arith) }
-
-pub no-ranks-more : {size v : ℕ} {ranks : List ℕ} → NoRanks size v ranks → v < size → NoRanks size (v + 1) (set ranks v 0)
-no-ranks-more {size} {v} {ranks} N l = record { length-is = length-set ranks v 0 ∙ N .length-is; zero-is = λ u h. go u h (same-or-not u v) }
-  where
-    go : (u : ℕ) → u < v + 1 → (u ≡ v) ⊎ (u ≢ v) → rankIn (set ranks v 0) u ≡ 0
-    go u h (inl e) = rw e (getD-set-same ranks v 0 0 (omega (arith, N .length-is)))
-    go u h (inr ne) = getD-set-other ranks v u 0 0 ne ∙ N .zero-is u (omega arith)
 
 -- the accounts below n that have P have the ranks 1 to d
 pub record Ranks (n d : ℕ) (ranks : List ℕ) (P : ℕ → Type 0) : Type 0 where
@@ -42,13 +28,13 @@ pub record Ranks (n d : ℕ) (ranks : List ℕ) (P : ℕ → Type 0) : Type 0 wh
   pub one : (u v : ℕ) → u < n → v < n → rankIn ranks u ≢ 0 → rankIn ranks u ≡ rankIn ranks v → u ≡ v
   pub each : (c : ℕ) → c < d → (v : ℕ) × (v < n) × (rankIn ranks v ≡ c + 1)
 
-pub ranks-none : {n size v : ℕ} {ranks : List ℕ} (named : List ℕ) → NoRanks size v ranks → n ≤ v → n ≤ size → Ranks n 0 ranks (Before named 0)
-ranks-none named N l s = record {
-  room = omega (arith, N .length-is);
-  yes = λ v h k. absurd (k (N .zero-is v (omega arith)));
+pub ranks-none : {n : ℕ} {ranks : List ℕ} (named : List ℕ) → Zeros n ranks → n ≤ length ranks → Ranks n 0 ranks (Before named 0)
+ranks-none named Z s = record {
+  room = s;
+  yes = λ v h k. absurd (k (Z v h));
   no = λ v h k (t, lt, q). omega (arith, lt);
-  most = λ v h. omega (arith, N .zero-is v (omega arith));
-  one = λ u v h k nz q. absurd (nz (N .zero-is u (omega arith)));
+  most = λ v h. omega (arith, Z v h);
+  one = λ u v h k nz q. absurd (nz (Z u h));
   each = λ c h. absurd (omega arith);
 }
 

@@ -1,22 +1,10 @@
 // Ranks of the named accounts: 1, 2, .. by first naming, so that a repeat changes nothing; 0 for every other account.
 ghost use Prim.Native.Nat.{_+_, _*_, _<_, _≤_};
 ghost use lib.ListN.{length};
-ghost use Rattle.holding.specs.Ranks.{NoRanks};
+ghost use Rattle.columns.specs.Wiping.{Zeros};
 ghost use Rattle.holding.specs.Turns.{Names, RankedOne, RankState};
+use columns::zero;
 use wire::field_at;
-
-// No ranks for the accounts below n.
-fn clear_ranks(ranks: &mut [u32], n: usize)
-    requires { ⌜ n ≤ length (now ranks) ⌝ }
-    requires { ⌜ n ≤ 1024 ⌝ }
-    ensures { λ _. ⌜ NoRanks (length (now (ranks .entry))) n (now (ranks .exit)) ⌝ }
-{
-    let mut v: usize = 0;
-    while v < n {
-        ranks[v] = 0;
-        v += 1;
-    }
-}
 
 // Account v is named when d ranks are given; gives the ranks given then.
 fn rank_one(ranks: &mut [u32], v: usize, d: usize) -> usize
@@ -34,7 +22,7 @@ fn rank_one(ranks: &mut [u32], v: usize, d: usize) -> usize
 
 // The ranks of k named accounts, where there are none; gives how many there are.
 fn rank_all(ranks: &mut [u32], n: usize, named: &[u8], k: usize) -> usize
-    requires { ⌜ NoRanks (length (now ranks)) n (now ranks) ⌝ }
+    requires { ⌜ Zeros n (now ranks) ⌝ }
     requires { ⌜ n ≤ length (now ranks) ⌝ }
     requires { ⌜ n ≤ 1024 ⌝ }
     requires { ⌜ Names n k (now named) ⌝ }
@@ -57,6 +45,6 @@ pub fn rank_named(ranks: &mut [u32], n: usize, named: &[u8], k: usize) -> usize
     requires { ⌜ Names n k (now named) ⌝ }
     ensures { λ r. ⌜ RankState n k r (now (named .entry)) (now (ranks .exit)) ⌝ }
 {
-    clear_ranks(ranks, n);
+    zero(ranks, n);
     rank_all(ranks, n, named, k)
 }

@@ -13,9 +13,8 @@ use Rattle.laws.proofs.Numbers.{same-or-not}
 use Rattle.laws.proofs.Rounds.{truss-nested}
 use Rattle.laws.proofs.ProperLinks.{live}
 use Rattle.columns.specs.Columns.{cell, SUPPORT, STRENGTH, QUEUE, FREE, noSupport}
-use Rattle.columns.specs.Wiping.{Wiping}
+use Rattle.columns.specs.Wiping.{Wiping, Zeroed}
 use Rattle.adjacency.specs.State.{Named, Near, Marks, Held, kept-held, kept-wiped, held-none, held-trans, named-kept, named-held, whole, startAt}
-use Rattle.adjacency.specs.Lists.{Zeroed}
 use Rattle.removal.specs.Queue.{Line}
 use Rattle.removal.specs.Left.{Left, left-whole, left-kept}
 use Rattle.removal.specs.Marks.{Stamps, stamps-first}
@@ -221,5 +220,5 @@ module _ {G : Graph} {m n : ℕ} {w start mark : List ℕ} (P : PeelPre G m n w 
     supports = λ y l. U .others SUPPORT y (omega arith) l ∙ R .supports y l;
     queue = U .zero;
     held = held-trans (kept-held (B .kept)) (held-trans (R .held) (kept-held (kept-wiped U (omega arith) (omega arith))));
-    blank = Z .is;
+    blank = Z .zero;
   }

@@ -12,9 +12,9 @@ use Rattle.truss.specs.Graph.{Graph, linkAt}
 use Rattle.truss.specs.Strength.{strength}
 use Rattle.laws.proofs.Numbers.{same-or-not, less-or-not}
 use Rattle.columns.specs.Columns.{cell, KEY, NEAR, STRENGTH, QUEUE, COLUMNS}
-use Rattle.columns.specs.Wiping.{Cleaned}
+use Rattle.columns.specs.Wiping.{Cleaned, Zeros}
 use Rattle.adjacency.specs.State.{Named, named-kept, near-kept}
-use Rattle.adjacency.specs.Lists.{ListsDone, Zeros, named-keyed}
+use Rattle.adjacency.specs.Lists.{ListsDone, named-keyed}
 use Rattle.triangles.specs.Lookups.{lookups}
 use Rattle.triangles.specs.LookupLaws.{looks-none}
 use Rattle.triangles.specs.Triangles.{Ask, Triangles}

@@ -15,7 +15,7 @@ abbrev μ-loop : tie.MeasureT-loop
 μ-loop ranks₀ n named k d₀ j₀ ranks d j = k - j
 
 loop-holds : tie.Need-loop-holds Inv-loop μ-loop
-loop-holds c = (omega arith, refl, record { ranks-are = ranks-none (c .before .before .args .named .now) (c .before .before .pre .0) (omega arith) (c .before .before .pre .1 .0); few-ranks = omega arith })
+loop-holds c = (omega arith, refl, record { ranks-are = ranks-none (c .before .before .args .named .now) (c .before .before .pre .0) (c .before .before .pre .1 .0); few-ranks = omega arith })
 
 mul-field-at : tie.Need-mul-field-at Inv-loop μ-loop
 mul-field-at c = omega (arith, c .loop-test .taken, c .before .before .before .before .pre .1 .1 .1 .few-names)

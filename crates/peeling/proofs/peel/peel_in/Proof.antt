@@ -18,7 +18,7 @@ wipe-requires : tie.Need-wipe-requires
 wipe-requires c κs = search needs
 
 zero-requires : tie.Need-zero-requires
-zero-requires c κs = search needs
+zero-requires c κs = (omega (arith, c .before .before .before .before .before .before .mark .given, c .before .before .before .before .before .before .before .before .before .before .before .before .before .before .before .before .before .before .before .before .before .before .before .before .before .before .before .pre .1 .marks .wide, c .before .before .before .before .before .before .before .before .before .before .before .before .before .before .before .before .before .before .before .before .before .before .before .before .before .before .before .pre .1 .named .accounts), c .before .before .before .before .before .before .before .before .before .before .before .before .before .before .before .before .before .before .before .before .before .before .before .before .before .before .before .pre .1 .named .small)
 
 same-length : tie.Need-same-length
 same-length c = search needs
