@@ -16,6 +16,9 @@ pub const STRENGTH: usize = 4;
 
 pub const QUEUE: usize = 5;
 
+// The columns from here on are not used then.
+pub const FREE: usize = 6;
+
 // And while the forest and the groups are made, from KEY and STRENGTH. The second and the third links of the triangles that one link leads.
 pub const SECOND: usize = 3;
 

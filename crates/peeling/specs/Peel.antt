@@ -9,12 +9,12 @@ use lib.Seq.{getD-set-same, getD-set-other}
 use Rattle.truss.specs.Graph.{Graph, support, linkAt}
 use Rattle.truss.specs.Strength.{strength}
 use Rattle.laws.proofs.Lists.{support-le}
-use Rattle.laws.proofs.Numbers.{same-or-not}
+use Rattle.laws.proofs.Numbers.{same-or-not, less-or-not}
 use Rattle.laws.proofs.Rounds.{truss-nested}
 use Rattle.laws.proofs.ProperLinks.{live}
-use Rattle.columns.specs.Columns.{cell, SUPPORT, STRENGTH, QUEUE, FREE, noSupport}
-use Rattle.columns.specs.Wiping.{Wiping, Zeroed}
-use Rattle.adjacency.specs.State.{Named, Near, Marks, Held, kept-held, kept-wiped, held-none, held-trans, named-kept, named-held, whole, startAt}
+use Rattle.columns.specs.Columns.{cell, NEAR, SUPPORT, STRENGTH, QUEUE, FREE, noSupport}
+use Rattle.columns.specs.Wiping.{Wiping, Cleaned, Zeroed}
+use Rattle.adjacency.specs.State.{Named, Near, Marks, Held, kept-held, kept-wiped, held-cleaned, held-none, held-trans, named-kept, named-held, whole, startAt}
 use Rattle.removal.specs.Queue.{Line}
 use Rattle.removal.specs.Left.{Left, left-whole, left-kept}
 use Rattle.removal.specs.Marks.{Stamps, stamps-first}
@@ -164,11 +164,10 @@ pub record PeelPre (G : Graph) (m n : ℕ) (w start mark : List ℕ) : Type 0 wh
   pub marks : Marks G mark 0
   pub triangles : (y : ℕ) → y < m → cell w m SUPPORT y ≡ support (G .n) (whole G) (linkAt G y)
 
--- column 4 has the strengths, columns 3 and 5 are 0; what is left of the lists in columns 1 and 2 is not told
-pub record PeelDone (G : Graph) (m n : ℕ) (w w′ mark′ : List ℕ) : Type 0 where
+-- column 4 has the strengths, the other columns from 1 to 5 are 0, and so are the marks; column 0 and the columns from 6 on stay
+pub record PeelCleared (G : Graph) (m n : ℕ) (w w′ mark′ : List ℕ) : Type 0 where
   pub strengths : (y : ℕ) → y < m → cell w′ m STRENGTH y ≡ strength G (linkAt G y)
-  pub supports : (y : ℕ) → y < m → cell w′ m SUPPORT y ≡ 0
-  pub queue : (y : ℕ) → y < m → cell w′ m QUEUE y ≡ 0
+  pub used : (c y : ℕ) → NEAR ≤ c → c < FREE → c ≢ STRENGTH → y < m → cell w′ m c y ≡ 0
   pub held : Held m FREE w w′
   pub blank : (c : ℕ) → c < n → getD mark′ c 0 ≡ 0
 
@@ -178,8 +177,8 @@ PeelAsks m n w start mark = (G : Graph) × PeelPre G m n w start mark
 abbrev pub PeelInAsks : ℕ → ℕ → List ℕ → List ℕ → List ℕ → List ℕ → Type 0
 PeelInAsks m n w start stop mark = (G : Graph) × PeelPre G m n w start mark × (length stop ≡ n)
 
-abbrev pub PeelGives : ℕ → ℕ → List ℕ → List ℕ → List ℕ → List ℕ → List ℕ → Type 0
-PeelGives m n w w′ start mark mark′ = (G : Graph) → PeelPre G m n w start mark → PeelDone G m n w w′ mark′
+abbrev pub PeelClears : ℕ → ℕ → List ℕ → List ℕ → List ℕ → List ℕ → List ℕ → Type 0
+PeelClears m n w w′ start mark mark′ = (G : Graph) → PeelPre G m n w start mark → PeelCleared G m n w w′ mark′
 
 -- the first a lists are whole
 pub record Ended (a : ℕ) (start stop₀ stop : List ℕ) : Type 0 where
@@ -214,11 +213,16 @@ module _ {G : Graph} {m n : ℕ} {w start mark : List ℕ} (P : PeelPre G m n w 
       shared = B .shared;
     }
 
-  pub peel-done : {tail : ℕ} {w₁ w₂ w₃ mark₁ mark₂ : List ℕ} → Bare m m tail w w₁ → Peeled G m w₁ w₂ → Wiping m QUEUE m w₂ w₃ → Zeroed n mark₁ mark₂ → PeelDone G m n w w₃ mark₂
-  peel-done B R U Z = record {
-    strengths = λ y l. U .others STRENGTH y (omega arith) l ∙ R .strengths y l;
-    supports = λ y l. U .others SUPPORT y (omega arith) l ∙ R .supports y l;
-    queue = U .zero;
-    held = held-trans (kept-held (B .kept)) (held-trans (R .held) (kept-held (kept-wiped U (omega arith) (omega arith))));
+  pub peel-done : {tail : ℕ} {w₁ w₂ w₃ w₄ mark₁ mark₂ : List ℕ} → Bare m m tail w w₁ → Peeled G m w₁ w₂ → Cleaned m NEAR SUPPORT w₂ w₃ → Wiping m QUEUE m w₃ w₄ → Zeroed n mark₁ mark₂
+      → PeelCleared G m n w w₄ mark₂
+  peel-done {tail} {w₁} {w₂} {w₃} {w₄} B R C U Z = record {
+    strengths = λ y l. U .others STRENGTH y (omega arith) l ∙ C .above STRENGTH y (omega arith) l ∙ R .strengths y l;
+    used = λ c y a b ne l. used c y a b ne l (less-or-not c SUPPORT) (same-or-not c QUEUE);
+    held = held-trans (kept-held (B .kept)) (held-trans (R .held) (held-trans (held-cleaned C (omega arith) (omega arith)) (kept-held (kept-wiped U (omega arith) (omega arith)))));
     blank = Z .zero;
   }
+    where
+      used : (c y : ℕ) → NEAR ≤ c → c < FREE → c ≢ STRENGTH → y < m → (c < SUPPORT) ⊎ (SUPPORT ≤ c) → (c ≡ QUEUE) ⊎ (c ≢ QUEUE) → cell w₄ m c y ≡ 0
+      used c y a b ne l s (inl q) = rw q (U .zero y l)
+      used c y a b ne l (inl s) (inr q) = U .others c y q l ∙ C .zero c y a s l
+      used c y a b ne l (inr s) (inr q) = let e : c ≡ SUPPORT = omega (arith, s, b, ne, q) in rw e (U .others SUPPORT y (omega arith) l ∙ C .above SUPPORT y (omega arith) l ∙ R .supports y l)

@@ -5,9 +5,10 @@ ghost use lib.ListN.{length};
 ghost use Rattle.peeling.specs.Bare.{Bared, Bare};
 ghost use Rattle.peeling.specs.Drain.{Pending, Finished, DrainAsks, DrainGives};
 ghost use Rattle.peeling.specs.Seed.{Least, LeastStep};
-ghost use Rattle.peeling.specs.Peel.{LevelAsks, LevelGives, LevelsAsk, LevelsGive, Ended, PeelAsks, PeelInAsks, PeelGives};
+ghost use Rattle.peeling.specs.Peel.{LevelAsks, LevelGives, LevelsAsk, LevelsGive, Ended, PeelAsks, PeelInAsks, PeelClears};
 ghost use Rattle.columns.specs.Columns.{COLUMNS, mostLinks, mostAccounts};
 use crate::seed::seed;
+use columns::NEAR;
 use columns::NO_SUPPORT;
 use columns::QUEUE;
 use columns::STRENGTH;
@@ -15,6 +16,7 @@ use columns::SUPPORT;
 use columns::get;
 use columns::put;
 use columns::wipe;
+use columns::wipe_all;
 use columns::zero;
 use removal::centre::turn_to;
 use removal::queue::push;
@@ -187,11 +189,12 @@ fn ends(start: &[u32], stop: &mut [u32], n: usize)
 // The peeling, with account-sized memory lent.
 fn peel_in(w: &mut [u32], m: usize, n: usize, start: &[u32], stop: &mut [u32], mark: &mut [u32])
     requires { ⌜ PeelInAsks m n (now w) (now start) (now stop) (now mark) ⌝ }
-    ensures { λ _. ⌜ PeelGives m n (now (w .entry)) (now (w .exit)) (now (start .entry)) (now (mark .entry)) (now (mark .exit)) ⌝ }
+    ensures { λ _. ⌜ PeelClears m n (now (w .entry)) (now (w .exit)) (now (start .entry)) (now (mark .entry)) (now (mark .exit)) ⌝ }
 {
     ends(start, stop, n);
     let tail = bare(w, m);
     peel_levels(w, m, n, start, stop, mark, tail);
+    wipe_all(w, m, NEAR, SUPPORT);
     wipe(w, m, QUEUE);
     zero(mark, n);
 }
@@ -201,10 +204,10 @@ fn room() -> [u32; 1024] {
     [0u32; 1024]
 }
 
-// Column STRENGTH from column SUPPORT. Columns SUPPORT and QUEUE and the marks are then 0.
+// Column STRENGTH from column SUPPORT. The other columns from NEAR to QUEUE and the marks are then 0; all else stays.
 pub fn peel(w: &mut [u32], m: usize, n: usize, start: &[u32], mark: &mut [u32])
     requires { ⌜ PeelAsks m n (now w) (now start) (now mark) ⌝ }
-    ensures { λ _. ⌜ PeelGives m n (now (w .entry)) (now (w .exit)) (now (start .entry)) (now (mark .entry)) (now (mark .exit)) ⌝ }
+    ensures { λ _. ⌜ PeelClears m n (now (w .entry)) (now (w .exit)) (now (start .entry)) (now (mark .entry)) (now (mark .exit)) ⌝ }
 {
     let mut stop = room();
     peel_in(w, m, n, start, &mut stop[..n], mark);

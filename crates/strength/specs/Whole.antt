@@ -11,14 +11,14 @@ use borrow.Author.Tests.{ne-eqb}
 use Rattle.truss.specs.Graph.{Graph, linkAt}
 use Rattle.truss.specs.Strength.{strength}
 use Rattle.laws.proofs.Numbers.{same-or-not, less-or-not}
-use Rattle.columns.specs.Columns.{cell, KEY, NEAR, STRENGTH, QUEUE, COLUMNS}
+use Rattle.columns.specs.Columns.{cell, KEY, NEAR, STRENGTH, FREE, COLUMNS}
 use Rattle.columns.specs.Wiping.{Cleaned, Zeros}
 use Rattle.adjacency.specs.State.{Named, named-kept, near-kept}
 use Rattle.adjacency.specs.Lists.{ListsDone, named-keyed}
 use Rattle.triangles.specs.Lookups.{lookups}
 use Rattle.triangles.specs.LookupLaws.{looks-none}
 use Rattle.triangles.specs.Triangles.{Ask, Triangles}
-use Rattle.peeling.specs.Peel.{PeelPre, PeelDone}
+use Rattle.peeling.specs.Peel.{PeelPre, PeelCleared}
 
 -- ---- the promise
 
@@ -50,6 +50,7 @@ pub record Worked (G : Graph) (m r : ℕ) (w w′ : List ℕ) : Type 0 where
   pub length-is : length w′ ≡ length w
   pub keys : (y : ℕ) → y < m → cell w′ m KEY y ≡ cell w m KEY y
   pub strengths : (y : ℕ) → y < m → cell w′ m STRENGTH y ≡ strength G (linkAt G y)
+  pub used : (c y : ℕ) → NEAR ≤ c → c < FREE → c ≢ STRENGTH → y < m → cell w′ m c y ≡ 0
   pub made : r ≡ lookups G
 
 abbrev pub WorkAsks : ℕ → ℕ → List ℕ → List ℕ → List ℕ → Type 0
@@ -80,11 +81,12 @@ module _ {G : Graph} {m n : ℕ} {w start₀ mark₀ : List ℕ} (P : WorkPre G 
         triangles = T .triangles;
       }
 
-      pub work-done : {w₃ mark₃ : List ℕ} → PeelDone G m n w₂ w₃ mark₃ → Worked G m r w w₃
+      pub work-done : {w₃ mark₃ : List ℕ} → PeelCleared G m n w₂ w₃ mark₃ → Worked G m r w w₃
       work-done D = record {
         length-is = D .held .length-is ∙ T .kept .length-is ∙ L .keyed .length-is;
         keys = λ y l. D .held .keys y l ∙ T .kept .keys y l ∙ L .keyed .keys y l;
         strengths = D .strengths;
+        used = D .used;
         made = T .made;
       }
 
@@ -93,20 +95,20 @@ module _ {G : Graph} {m n : ℕ} {w start₀ mark₀ : List ℕ} (P : WorkPre G 
 pub strengths-none : {G : Graph} {m n : ℕ} {w : List ℕ} → Named G m n w → m ≡ 0 → Strengths G m 0 w w
 strengths-none N z = record { length-is = refl; entries = λ c y l k. absurd (omega arith); made = looks-none N z }
 
-pub strengths-all : {G : Graph} {m r : ℕ} {w w₁ w₂ w₃ : List ℕ} → Worked G m r w w₁ → Cleaned m NEAR STRENGTH w₁ w₂ → Cleaned m QUEUE COLUMNS w₂ w₃ → Strengths G m r w w₃
+pub strengths-all : {G : Graph} {m r : ℕ} {w w₁ w₂ : List ℕ} → Worked G m r w w₁ → Cleaned m FREE COLUMNS w₁ w₂ → Strengths G m r w w₂
 unfolding afterwards
-strengths-all {G} {m} {r} {w} {w₁} {w₂} {w₃} W A B = record {
-  length-is = B .length-is ∙ A .length-is ∙ W .length-is;
+strengths-all {G} {m} {r} {w} {w₁} {w₂} W C = record {
+  length-is = C .length-is ∙ W .length-is;
   entries = λ c y l k. go c y l k (same-or-not c KEY) (same-or-not c STRENGTH);
   made = W .made;
 }
   where
     go : (c y : ℕ) → c < COLUMNS → y < m → (c ≡ KEY) ⊎ (c ≢ KEY) → (c ≡ STRENGTH) ⊎ (c ≢ STRENGTH)
-        → cell w₃ m c y ≡ cond (eqb c KEY) (cell w m KEY y) (cond (eqb c STRENGTH) (strength G (linkAt G y)) 0)
-    go c y l k (inl z) q = rw z (B .below KEY y (omega arith) k ∙ A .below KEY y (omega arith) k ∙ W .keys y k)
-    go c y l k (inr n) (inl z) = rw z (B .below STRENGTH y (omega arith) k ∙ A .above STRENGTH y (omega arith) k ∙ W .strengths y k)
-    go c y l k (inr n) (inr n′) = rw (ne-eqb c KEY n, ne-eqb c STRENGTH n′) (at (less-or-not c STRENGTH))
+        → cell w₂ m c y ≡ cond (eqb c KEY) (cell w m KEY y) (cond (eqb c STRENGTH) (strength G (linkAt G y)) 0)
+    go c y l k (inl z) q = rw z (C .below KEY y (omega arith) k ∙ W .keys y k)
+    go c y l k (inr n) (inl z) = rw z (C .below STRENGTH y (omega arith) k ∙ W .strengths y k)
+    go c y l k (inr n) (inr n′) = rw (ne-eqb c KEY n, ne-eqb c STRENGTH n′) (at (less-or-not c FREE))
       where
-        at : (c < STRENGTH) ⊎ (STRENGTH ≤ c) → cell w₃ m c y ≡ 0
-        at (inl h) = B .below c y (omega arith) k ∙ A .zero c y (omega arith) h k
-        at (inr h) = B .zero c y (omega arith) l k
+        at : (c < FREE) ⊎ (FREE ≤ c) → cell w₂ m c y ≡ 0
+        at (inl h) = C .below c y h k ∙ W .used c y (omega (arith, n)) h n′ k
+        at (inr h) = C .zero c y h l k

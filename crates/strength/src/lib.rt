@@ -5,9 +5,7 @@ ghost use Rattle.strength.specs.Range.{strengthOf};
 ghost use Rattle.strength.specs.Whole.{WorkAsks, WorkGives, StrengthsGive};
 use adjacency::lists::lists;
 use columns::COLUMNS;
-use columns::NEAR;
-use columns::QUEUE;
-use columns::STRENGTH;
+use columns::FREE;
 use columns::wipe_all;
 use peeling::peel::peel;
 use triangles::count_triangles;
@@ -67,7 +65,6 @@ pub fn strengths(w: &mut [u32], m: usize, n: usize) -> usize
     let mut start = room();
     let mut mark = room();
     let lookups = work(w, m, n, &mut start[..n + 1], &mut mark[..n]);
-    wipe_all(w, m, NEAR, STRENGTH);
-    wipe_all(w, m, QUEUE, COLUMNS);
+    wipe_all(w, m, FREE, COLUMNS);
     lookups
 }

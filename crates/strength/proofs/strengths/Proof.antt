@@ -39,17 +39,14 @@ work-requires c κs =
 wipe-all-requires : tie.Need-wipe-all-requires
 wipe-all-requires c κs = search needs
 
-wipe-all-requires-2 : tie.Need-wipe-all-requires-2
-wipe-all-requires-2 c κs = search needs
-
 same-length : tie.Need-same-length
 same-length c = search needs
 
 returns-2 : tie.Need-returns-2
 returns-2 c = λ G N.
     strengths-all
-    (c .before .before .before .before .before .before .before .before .before .before .before .before .work .ensures G (work-pre N (c .before .before .before .before .before .before .before .before .before .before .before .before .before .before .before .before .before .before .if1 .left) (length-take-le _ _ (omega (arith, N .small))) (length-take-le _ _ (omega (arith, N .small)))))
-    (c .before .before .before .before .before .before .wipe-all .ensures) (c .before .before .wipe-all2 .ensures)
+    (c .before .before .before .before .before .before .before .before .work .ensures G (work-pre N (c .before .before .before .before .before .before .before .before .before .before .before .before .before .before .if1 .left) (length-take-le _ _ (omega (arith, N .small))) (length-take-le _ _ (omega (arith, N .small)))))
+    (c .before .before .wipe-all .ensures)
 
 pub strengths-spec : {M : Type 1} → statement M
 strengths-spec =
@@ -65,6 +62,5 @@ strengths-spec =
     slice-aggregate-work-2
     work-requires
     wipe-all-requires
-    wipe-all-requires-2
     same-length
     returns-2)
