@@ -19,12 +19,8 @@ pub const QUEUE: usize = 5;
 // The columns from here on are not used then.
 pub const FREE: usize = 6;
 
-// And while the forest and the groups are made, from KEY and STRENGTH. The second and the third links of the triangles that one link leads.
-pub const SECOND: usize = 3;
-
-pub const THIRD: usize = 5;
-
-// Of each link: its parent in the union-find forest, the next weight at which it starts joins, its own group.
+// And while the forest and the groups are made, from KEY and STRENGTH. Of each link: its parent in the union-find forest, the next weight at which it
+// starts joins, its own group.
 pub const PARENT: usize = 6;
 
 pub const NEXT: usize = 7;

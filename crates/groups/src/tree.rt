@@ -13,9 +13,9 @@ use columns::JOIN_ENDS;
 use columns::JOIN_WEIGHT;
 use columns::NEAR;
 use columns::OWN_GROUP;
+use columns::QUEUE;
 use columns::ROOT_GROUP;
 use columns::STRENGTH;
-use columns::THIRD;
 use columns::wipe_all;
 use columns::wipe_range;
 use forest::level::level;
@@ -83,7 +83,7 @@ fn tidy(w: &mut [u32], m: usize, joins: usize, groups: usize)
 {
     wipe_ends(w, m, joins, groups);
     wipe_all(w, m, NEAR, STRENGTH);
-    wipe_all(w, m, THIRD, OWN_GROUP);
+    wipe_all(w, m, QUEUE, OWN_GROUP);
     wipe_all(w, m, ROOT_GROUP, COLUMNS);
 }
 

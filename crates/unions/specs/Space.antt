@@ -35,13 +35,9 @@ joining c = eqb c 6 || (eqb c 9 || eqb c 10)
 abbrev pub nexting : Columns
 nexting c = eqb c 7
 
--- triangles noted, and a next weight
-abbrev pub gathering : Columns
-gathering c = eqb c 3 || (eqb c 5 || nexting c)
-
 -- a level of the forest
 abbrev pub growing : Columns
-growing c = gathering c || joining c
+growing c = eqb c 7 || joining c
 
 -- the start
 abbrev pub preparing : Columns
@@ -74,13 +70,10 @@ pub roots-joining : (c : ℕ) → joining c ≡ false → roots c ≡ false
 roots-joining c h = or-left-false (eqb c 6) (eqb c 9 || eqb c 10) h
 
 pub joining-growing : (c : ℕ) → growing c ≡ false → joining c ≡ false
-joining-growing c h = or-right-false (gathering c) (joining c) h
+joining-growing c h = or-right-false (eqb c 7) (joining c) h
 
-pub gathering-growing : (c : ℕ) → growing c ≡ false → gathering c ≡ false
-gathering-growing c h = or-left-false (gathering c) (joining c) h
-
-pub nexting-gathering : (c : ℕ) → gathering c ≡ false → nexting c ≡ false
-nexting-gathering c h = or-right-false (eqb c 5) (nexting c) (or-right-false (eqb c 3) (eqb c 5 || nexting c) h)
+pub nexting-growing : (c : ℕ) → growing c ≡ false → nexting c ≡ false
+nexting-growing c h = or-left-false (eqb c 7) (joining c) h
 
 -- ---- column 6 as a list of parents
 
