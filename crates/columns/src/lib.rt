@@ -52,6 +52,9 @@ pub const HALF: usize = 65536;
 // The most accounts.
 pub const ACCOUNTS: usize = 1024;
 
+// No group: the group of a link of strength 2, and the parent of a group that no other contains.
+pub const NO_GROUP: usize = 65535;
+
 // Above every support.
 pub const NO_SUPPORT: usize = 65536;
 

@@ -7,6 +7,7 @@ ghost use Rattle.groups.specs.Level.{GroupAsks, GroupGives};
 use columns::GROUP_LEAST;
 use columns::GROUP_PARENT;
 use columns::GROUP_STRENGTH;
+use columns::NO_GROUP;
 use columns::OWN_GROUP;
 use columns::ROOT_GROUP;
 use columns::ROOT_STRENGTH;
@@ -49,7 +50,7 @@ fn number_one(w: &mut [u32], m: usize, r: usize, k: usize, g: usize) -> usize
     }
     put(w, m, ROOT_GROUP, r, g);
     put(w, m, GROUP_STRENGTH, g, k);
-    put(w, m, GROUP_PARENT, g, 65535);
+    put(w, m, GROUP_PARENT, g, NO_GROUP);
     put(w, m, GROUP_LEAST, g, r);
     g + 1
 }
@@ -98,7 +99,7 @@ fn adopt_one(w: &mut [u32], m: usize, k: usize, g: usize)
     requires { ⌜ AdoptAsks m k g (now w) ⌝ }
     ensures { λ _. ⌜ AdoptGives m k g (now (w .entry)) (now (w .exit)) ⌝ }
 {
-    if get(w, m, GROUP_PARENT, g) != 65535 {
+    if get(w, m, GROUP_PARENT, g) != NO_GROUP {
         return;
     }
     let l = get(w, m, GROUP_LEAST, g);

@@ -5,10 +5,10 @@ ghost use lib.ListN.{length};
 ghost use Rattle.stored.specs.Rows.{Sized};
 ghost use Rattle.holding.specs.Turns.{Clear, HoldAsks, HoldGives, LiftAll, LiftGives, LiftOne, Marked, MarkGiven, MeetAll, MeetOne, Meets, OwnMarks};
 use crate::ranks::rank_named;
+use columns::NO_GROUP;
 use columns::get;
 use columns::put;
 use columns::wipe_range;
-use stored::rows::NONE;
 use stored::rows::group_parent;
 use stored::rows::link_group;
 use stored::rows::link_higher;
@@ -50,7 +50,7 @@ fn mark_link(s: &[u8], w: &mut [u32], m: usize, count: usize, d: usize, ranks: &
     ensures { λ _. ⌜ OwnMarks (now (s .entry)) m count d (now (ranks .entry)) (i + 1) (now (w .exit)) ⌝ }
 {
     let g = link_group(s, i);
-    if g == NONE {
+    if g == NO_GROUP {
         return;
     }
     let a = link_lower(s, i);
@@ -86,7 +86,7 @@ fn lift(s: &[u8], at: usize, w: &mut [u32], m: usize, count: usize, c: usize, g:
         return;
     }
     let p = group_parent(s, at, g);
-    if p == NONE {
+    if p == NO_GROUP {
         return;
     }
     put(w, m, c, p, 1);

@@ -12,12 +12,12 @@ ghost use Rattle.listing.specs.Rows.{AccountsAsks, AccountsGive, Counted
 use adjacency::lists::lists;
 use columns::HALF;
 use columns::KEY;
+use columns::NO_GROUP;
 use columns::get;
 use columns::near;
 use columns::put;
 use columns::wipe;
 use columns::wipe_all;
-use stored::rows::NONE;
 use stored::rows::group_parent;
 use stored::rows::link_group;
 use stored::rows::link_higher;
@@ -87,7 +87,7 @@ fn touch_up(
     ensures { λ _. ⌜ UpGives (now (s .entry)) m count c g r (now (w .entry)) (now (w .exit)) ⌝ }
 {
     let mut x = g;
-    while x != NONE {
+    while x != NO_GROUP {
         touch(w, m, count, c, x, r);
         x = group_parent(s, at, x);
     }

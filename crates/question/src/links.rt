@@ -12,12 +12,12 @@ ghost use Rattle.stored.specs.Rows.{Shape, graphIn};
 ghost use Rattle.question.specs.Replies.{Answers};
 ghost use Rattle.question.specs.Links.{GroupsGiven, Inside, InsideAsks, JoinedGives, Members, MembersAsks, NumberGives};
 use crate::lists::give;
+use columns::NO_GROUP;
 use columns::put;
 use index::Reply;
 use index::answered;
 use stored::climb::group_at;
 use stored::find::find_link;
-use stored::rows::NONE;
 use stored::rows::link_strength;
 
 // A. The strength of a link.
@@ -55,7 +55,7 @@ fn in_one_group(s: &[u8], at: usize, count: usize, k: usize, e: usize, f: usize)
     ensures { λ r. ⌜ r ≡ any (eqb f) (groupAt (graphIn (now (s .entry))) k e) ⌝ }
 {
     let g = group_at(s, at, count, k, e);
-    if g == NONE {
+    if g == NO_GROUP {
         return false;
     }
     g == group_at(s, at, count, k, f)
@@ -121,7 +121,7 @@ fn inside(s: &[u8], at: usize, count: usize, k: usize, e: usize, g: usize, i: us
     requires { ⌜ InsideAsks (now s) at count k e g i ⌝ }
     ensures { λ r. ⌜ Inside (graphIn (now (s .entry))) k e i r ⌝ }
 {
-    if g == NONE {
+    if g == NO_GROUP {
         return 0;
     }
     if group_at(s, at, count, k, i) != g {

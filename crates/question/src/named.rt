@@ -11,12 +11,12 @@ ghost use Rattle.stored.specs.Rows.{Shape, Sized, graphIn};
 ghost use Rattle.question.specs.Replies.{Answers};
 ghost use Rattle.question.specs.Named.{AboveGives, Best, Counts, FaultGives, HeldGives, Kept, LevelGives, StrongestGives};
 use crate::lists::give;
+use columns::NO_GROUP;
 use columns::get;
 use columns::put;
 use holding::marks::hold;
 use index::Reply;
 use index::answered;
-use stored::rows::NONE;
 use stored::rows::group_parent;
 use stored::rows::group_strength;
 use wire::field_at;
@@ -80,7 +80,7 @@ fn is_group_at(s: &[u8], at: usize, m: usize, count: usize, k: usize, g: usize) 
         return false;
     }
     let p = group_parent(s, at, g);
-    if p == NONE {
+    if p == NO_GROUP {
         return true;
     }
     group_strength(s, at, p) < k

@@ -7,11 +7,11 @@ ghost use Rattle.truss.specs.Limits.{minLevel};
 ghost use Rattle.truss.specs.Group.{groupOf, groups};
 ghost use Rattle.stored.specs.Rows.{graphIn, GroupsAt};
 ghost use Rattle.stored.specs.Climb.{ClimbAsks, Climbed};
-use crate::rows::NONE;
 use crate::rows::group_parent;
 use crate::rows::group_strength;
 use crate::rows::link_group;
 use crate::rows::link_strength;
+use columns::NO_GROUP;
 
 // From group g, whose strength is at least k, up to the group at k. Numbers rise at each step.
 pub fn climb(s: &[u8], at: usize, count: usize, k: usize, g: usize) -> usize
@@ -19,7 +19,7 @@ pub fn climb(s: &[u8], at: usize, count: usize, k: usize, g: usize) -> usize
     ensures { λ r. ⌜ Climbed (graphIn (now (s .entry))) k g r ⌝ }
 {
     let p = group_parent(s, at, g);
-    if p == NONE {
+    if p == NO_GROUP {
         return g;
     }
     if group_strength(s, at, p) < k {
@@ -28,7 +28,7 @@ pub fn climb(s: &[u8], at: usize, count: usize, k: usize, g: usize) -> usize
     climb(s, at, count, k, p)
 }
 
-// The number of the group at k with link i, NONE if the link's strength is below k.
+// The number of the group at k with link i, NO_GROUP if the link's strength is below k.
 pub fn group_at(s: &[u8], at: usize, count: usize, k: usize, i: usize) -> usize
     requires { ⌜ GroupsAt (now s) at ⌝ }
     requires { ⌜ groupCount (graphIn (now s)) ≡ count ⌝ }
@@ -37,7 +37,7 @@ pub fn group_at(s: &[u8], at: usize, count: usize, k: usize, i: usize) -> usize
     ensures { λ r. ⌜ r ≡ groupOf (graphIn (now (s .entry))) (groups (graphIn (now (s .entry)))) k i ⌝ }
 {
     if link_strength(s, i) < k {
-        return NONE;
+        return NO_GROUP;
     }
     let g = link_group(s, i);
     climb(s, at, count, k, g)

@@ -9,9 +9,6 @@ ghost use Rattle.stored.specs.Rows.{graphIn, ownGroup, parentOf, GroupsA
 use wire::field_at;
 use wire::wide;
 
-// No group: the group of a link of strength 2, and the parent of a group that no other contains.
-pub const NONE: usize = 65535;
-
 // The lower account of link i.
 pub fn link_lower(s: &[u8], i: usize) -> usize
     requires { ⌜ IsIndex (now s) ⌝ }
