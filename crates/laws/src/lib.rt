@@ -3,4 +3,6 @@ ghost use Rattle.truss.specs.Demand3.{Demand3, OnlyShortMemory};
 
 pub fn laws()
     ensures { λ _. ⌜ Demand3 × OnlyShortMemory ⌝ }
-{}
+{
+    return;
+}

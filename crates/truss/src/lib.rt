@@ -4,4 +4,6 @@ ghost use Rattle.truss.specs.WholeCalls.{WholeCalls};
 
 pub fn definitions()
     ensures { λ _. ⌜ Cases × RuleCases × WholeCalls ⌝ }
-{}
+{
+    return;
+}
