@@ -9,7 +9,7 @@ use native.Mathlib.Omega.{arith}
 use lib.Dec.{eqb}
 use lib.ListN.{length}
 use borrow.Author.Tests.{eq-eqb, eqb-true}
-use Rattle.truss.specs.Lists.{any, all}
+use Rattle.truss.specs.Lists.{all}
 use Rattle.truss.specs.Graph.{Graph, linkAt, ends}
 use Rattle.truss.specs.Group.{groups}
 use Rattle.truss.specs.Index.{index}

@@ -5,7 +5,6 @@ use mathlib.Core.List.{List, [], _++_}
 use mathlib.Core.List.{List·Memᴰ·not-nil as in-nil}
 use Prim.Native.Nat.{ℕ, _+_, _*_, _≤_, _<_}
 use native.Mathlib.Omega.{arith}
-use lib.Dec.{eqb, ltb}
 use lib.ListN.{length, drop}
 use borrow.Author.Tests.{lt-ltb, le-ltb, eq-eqb, ne-eqb}
 use Rattle.truss.specs.Graph.{Pair, graphOf}

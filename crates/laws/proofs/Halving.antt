@@ -1,5 +1,5 @@
 -- A union-find forest with parent[i] ≤ i: a point may be hung under its parent's parent, and every root stays. Points with one parent have one root.
-use mathlib.Core.Path.{_≡_, refl, sym, ap, _∙_}
+use mathlib.Core.Path.{_≡_, sym, ap, _∙_}
 use mathlib.Core.Logic.{_⊎_, inl, inr, _≢_}
 use mathlib.Core.Bool.{true, false}
 use mathlib.Core.List.{List}

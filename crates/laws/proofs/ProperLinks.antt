@@ -52,10 +52,6 @@ module _ (G : Graph) (proper : Proper G) where
         off true = refl
         off false = refl
 
-    pub not-link : (f : Link) → member (G .links) f ≡ false → live G d f ≡ false
-    unfolding live
-    not-link f h = rw h
-
     -- by number
     pub live-at : (y : ℕ) → y < length (G .links) → d y ≡ 0 → live G d (linkAt G y) ≡ true
     live-at y l e = is-live (linkAt G y) (at-member y l) (ap d (proper .numbered y l) ∙ e)

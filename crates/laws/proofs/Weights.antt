@@ -6,7 +6,6 @@ use mathlib.Core.List.{List·Memᴰ as In, List·Memᴰ·head as here}
 use Prim.Native.Nat.{ℕ, _+_, _≤_, _<_, min, max}
 use native.Mathlib.Nat.{le-refl}
 use native.Mathlib.Omega.{arith}
-use Rattle.truss.specs.Lists.{concatMap}
 use Rattle.truss.specs.Graph.{Link, LinkSet, Graph, Triangle, Has, is-ab, is-ac, is-bc, sideAB, sideAC, link, sameLink, member, linkNumber, linkAt, support, triangles}
 use Rattle.truss.specs.Strength.{IsTruss, strength, weight}
 use Rattle.truss.specs.Chain.{StrongTriangle}

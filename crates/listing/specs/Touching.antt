@@ -19,7 +19,7 @@ use Rattle.laws.proofs.Stored.{groupCount, stored}
 use Rattle.laws.proofs.Tree.{parent-rises, group-rows-length}
 use Rattle.columns.specs.Columns.{cell, store}
 use Rattle.columns.specs.Laws.{upd-store, length-store, kept-column}
-use Rattle.stored.specs.Rows.{graphIn, IsIndex, ownGroup, parentOf, proper, fits-groups, few, parent-cases, own-cases, Sized, sized-few}
+use Rattle.stored.specs.Rows.{graphIn, IsIndex, ownGroup, parentOf, proper, fits-groups, parent-cases, own-cases, Sized, sized-few}
 use Rattle.listing.specs.Paths.{rising, onward, step-up, in-leads, leads-in}
 
 -- what the walk up asks of index and columns: c is the column that counts

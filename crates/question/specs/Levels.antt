@@ -8,7 +8,7 @@ use Prim.Native.Nat.{ℕ, _≤_, _<_}
 use native.Mathlib.Omega.{arith}
 use lib.ListN.{length}
 use Rattle.truss.specs.Limits.{minLevel, noGroup}
-use Rattle.truss.specs.Lists.{filter, range}
+use Rattle.truss.specs.Lists.{range}
 use Rattle.truss.specs.Graph.{Graph}
 use Rattle.truss.specs.Forest.{sameComponent}
 use Rattle.truss.specs.Group.{leastLink, groups, groupAt, labelsAt}

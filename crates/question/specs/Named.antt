@@ -24,7 +24,7 @@ use Rattle.laws.proofs.Answers.{D-only, D-all, numbers-in, in-numbers}
 use Rattle.columns.specs.Columns.{cell, store}
 use Rattle.columns.specs.Laws.{upd-store, length-store}
 use Rattle.wire.specs.Writing.{Tells, tells-yes, tells-no}
-use Rattle.stored.specs.Rows.{graphIn, parentOf, parent-cases, few, Sized, sized-few}
+use Rattle.stored.specs.Rows.{graphIn, parentOf, parent-cases, Sized, sized-few}
 use Rattle.holding.specs.Marks.{Marks, marks-as, marks-clear}
 use Rattle.holding.specs.Ranks.{Before, in-before, before-in}
 use Rattle.holding.specs.Turns.{Names, HoldGives}

@@ -3,7 +3,7 @@ use Prim.Native.Nat.{ℕ, _+_, _*_, _-_}
 use mathlib.Core.Path.{refl, ap, _∙_}
 use mathlib.Core.List.{List, _++_}
 use native.Mathlib.Omega.{arith}
-use lib.ListN.{length, length-append}
+use lib.ListN.{length-append}
 use Rattle.wire.specs.Writing.{written, written-next, upTo, upTo-length}
 use Rattle.truss.specs.Record.{headBytes, kindHead}
 use Rattle.index.specs.Read.{backBytes}

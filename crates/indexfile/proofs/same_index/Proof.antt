@@ -2,7 +2,6 @@
 use Rattle.indexfile.specs.Same.{not-length, not-head, not-links, not-joins, not-groups, not-end, is-index}
 use Rattle.indexfile.specs.Rows.{link-part, join-part, group-part}
 use Rattle.wire.specs.Writing.{tells-no, turned-true, turned-false, tells-both}
-use lib.ListN.{length}
 use native.Mathlib.Omega.{arith}
 use mathlib.Core.Path.{refl, _∙_}
 use Prim.Native.Nat.{_-_}

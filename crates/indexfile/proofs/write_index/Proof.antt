@@ -2,7 +2,6 @@
 use Rattle.indexfile.specs.Same.{H, L, J, G, front-links, front-joins, front-groups}
 use Rattle.indexfile.specs.Rows.{link-part, join-part, group-part, index-parts}
 use Rattle.wire.specs.Writing.{written, written-next}
-use lib.ListN.{length}
 use native.Mathlib.Omega.{arith}
 use mathlib.Core.List.{_++_}
 use mathlib.Core.Path.{refl, sym, ap, _∙_}
