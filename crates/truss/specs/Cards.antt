@@ -5,7 +5,7 @@ use Rattle.truss.specs.Lists.{concatMap}
 use Rattle.truss.specs.Graph.{Pair, Graph, graphOf}
 use Rattle.truss.specs.Record.{kindHead, field, headBytes, endBytes}
 use Rattle.truss.specs.LinksFile.{pairBytes}
-use Rattle.truss.specs.Index.{indexBytes}
+use Rattle.truss.specs.Index.{Index, indexBytes}
 
 unfoldable pub pair : ℕ → ℕ → Pair
 pair a b = record { first = a; second = b }
@@ -102,3 +102,22 @@ triangle = graphOf 3 (pair 2 0 ∷ pair 0 1 ∷ pair 2 1 ∷ [])
 unfoldable pub indexT : List ℕ
 unfolding triangle indexBytes
 indexT = indexBytes triangle
+
+-- rows whose fields need both bytes (of no graph), and their bytes
+unfoldable pub largeRows : Index
+largeRows =
+    record {
+      n = 600;
+      m = 300;
+      links = record { lo = 258; hi = 772; strength = 5; group = 1543 } ∷ [];
+      joins = record { lower = 2057; higher = 2571; weight = 12 } ∷ [];
+      groups = record { parent = 3342; strength = 15; least = 4113 } ∷ [];
+    }
+
+unfoldable pub largeBytes : List ℕ
+largeBytes =
+    1 ∷ 2 ∷ 88 ∷ 1 ∷ 44
+    ∷ 2 ∷ 1 ∷ 2 ∷ 3 ∷ 4 ∷ 5 ∷ 6 ∷ 7
+    ∷ 3 ∷ 8 ∷ 9 ∷ 10 ∷ 11 ∷ 12
+    ∷ 4 ∷ 13 ∷ 14 ∷ 15 ∷ 16 ∷ 17
+    ∷ 5 ∷ []

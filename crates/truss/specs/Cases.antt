@@ -1,21 +1,23 @@
--- Worked cases of the definitions, held by computation. `Cases` is document 01's list marked P, with card A's bytes and card B's listing; `RuleCases`
--- has one for each tie, limit and order of checks that the P list leaves open.
+-- Worked cases of the definitions, held by computation. `Cases` is document 01's list marked P, with card A's bytes and card B's listing. What that
+-- list leaves open: `RuleCases` has the ties and the checks of a links file, `WindowCases` the checks of a question, `FieldCases` numbers above 255.
+-- The limits stand in Figures.
 use mathlib.Core.Path.{_≡_, refl}
 use mathlib.Core.Option.{none, some}
 use mathlib.Core.List.{[], _∷_}
-use lib.ListN.{length}
+use lib.ListN.{length, take, replicate}
 use Rattle.truss.specs.Limits.{noGroup}
 use Rattle.truss.specs.Graph.{link, graphOf, member, support}
 use Rattle.truss.specs.Forest.{join, forest}
 use Rattle.truss.specs.Group.{groups}
 use Rattle.truss.specs.Refusal.{passed, refuse}
 use Rattle.truss.specs.Record.{bodyLength}
-use Rattle.truss.specs.LinksFile.{accepted, readLinks, writeLinks, readBack}
-use Rattle.truss.specs.Index.{index, indexBytes}
+use Rattle.truss.specs.LinksFile.{accepted, readLinks, pairBytes, writeLinks, readBack}
+use Rattle.truss.specs.Index.{index, encode, indexBytes, decode}
 use Rattle.truss.specs.IndexFile.{readIndex}
-use Rattle.truss.specs.Question.{answer, ask-strength, ask-joined, ask-groups-at, ask-strongest, ask-all, ask-links, number, numbers}
+use Rattle.truss.specs.Question.{accountsIn, answer, ask-strength, ask-joined, ask-groups-at, ask-strongest, ask-all, ask-links, number, numbers}
+use Rattle.truss.specs.Call.{answerBytes, answerValue, tallyBytes, tallyIn}
 use Rattle.truss.specs.Listing.{rows, lister}
-use Rattle.truss.specs.Cards.{pair, file, headOnly, accounts, pairsA, pairsA′, graphA, indexA, graphB, indexB, bowTie, five, nested, kite, twoApart, triangle}
+use Rattle.truss.specs.Cards.{pair, file, headOnly, accounts, pairsA, pairsA′, graphA, indexA, graphB, indexB, bowTie, five, nested, kite, twoApart, triangle, largeRows, largeBytes}
 
 -- ---- document 01, "Meetings on paper (P: proved)"
 
@@ -79,7 +81,7 @@ cases = record {
   B-lister = refl;
 }
 
--- ---- ties, limits, and every order of checks
+-- ---- ties, and every order of the checks of a links file
 
 pub record RuleCases : Type 0 where
   -- ties: joins of equal weight, groups of equal strength, the smallest of several containing groups
@@ -108,10 +110,11 @@ pub record RuleCases : Type 0 where
   cut-head : readLinks (1 ∷ 0 ∷ 5 ∷ []) ≡ refuse 1 0
   wrong-first-kind : readLinks (6 ∷ 0 ∷ 5 ∷ 0 ∷ 6 ∷ []) ≡ refuse 1 0
   head-alone : readLinks (1 ∷ 0 ∷ 0 ∷ 0 ∷ 0 ∷ []) ≡ refuse 2 0
-  n-before-m : readLinks (file 0 2049 [] []) ≡ refuse 2 0
-  most-accounts : readLinks (headOnly 1024) ≡ accepted 1024 []
-  most-links : readLinks (file 5 2048 [] []) ≡ refuse 1 5
-  too-many-links : readLinks (file 5 2049 [] []) ≡ refuse 3 0
+  kind-before-n : readLinks (6 ∷ 0 ∷ 0 ∷ 0 ∷ 0 ∷ []) ≡ refuse 1 0
+  kind-before-m : readLinks (6 ∷ 0 ∷ 5 ∷ 255 ∷ 255 ∷ []) ≡ refuse 1 0
+  cut-before-m : readLinks (1 ∷ 0 ∷ 5 ∷ 255 ∷ []) ≡ refuse 1 0
+  n-before-m : readLinks (file 0 65535 [] []) ≡ refuse 2 0
+  high-n-before-m : readLinks (file 65535 65535 [] []) ≡ refuse 2 0
   -- the records as 1, 4, 5, 6, the first fault met
   no-end : readLinks (file 5 0 [] []) ≡ refuse 1 5
   early-end : readLinks (file 5 2 (pair 0 1 ∷ []) (5 ∷ [])) ≡ refuse 1 10
@@ -119,6 +122,9 @@ pub record RuleCases : Type 0 where
   after-end : readLinks (file 5 1 (pair 0 1 ∷ []) (5 ∷ 5 ∷ [])) ≡ refuse 1 11
   cut-link : readLinks (file 5 1 [] (6 ∷ 0 ∷ 1 ∷ 0 ∷ [])) ≡ refuse 1 5
   cut-before-high : readLinks (file 5 1 [] (6 ∷ 0 ∷ 9 ∷ 0 ∷ [])) ≡ refuse 1 5
+  cut-before-equal : readLinks (file 5 1 [] (6 ∷ 0 ∷ 0 ∷ 0 ∷ [])) ≡ refuse 1 5
+  cut-before-again : readLinks (file 5 2 (pair 0 1 ∷ []) (6 ∷ 0 ∷ 1 ∷ 0 ∷ [])) ≡ refuse 1 10
+  kind-before-high : readLinks (file 5 1 [] (2 ∷ 0 ∷ 9 ∷ 0 ∷ 9 ∷ 5 ∷ [])) ≡ refuse 1 5
   first-account-too-high : readLinks (file 5 1 (pair 5 4 ∷ []) (5 ∷ [])) ≡ refuse 4 5
   second-account-too-high : readLinks (file 5 2 (pair 0 1 ∷ pair 4 5 ∷ []) (5 ∷ [])) ≡ refuse 4 10
   high-before-equal : readLinks (file 5 1 (pair 5 5 ∷ []) (5 ∷ [])) ≡ refuse 4 5
@@ -126,6 +132,9 @@ pub record RuleCases : Type 0 where
   pair-again : readLinks (file 5 2 (pair 0 1 ∷ pair 0 1 ∷ []) (5 ∷ [])) ≡ refuse 6 10
   pair-again-turned : readLinks (file 5 2 (pair 0 1 ∷ pair 1 0 ∷ []) (5 ∷ [])) ≡ refuse 6 10
   again-before-later-fault : readLinks (file 5 3 (pair 0 1 ∷ pair 1 0 ∷ pair 3 3 ∷ []) (5 ∷ [])) ≡ refuse 6 10
+  high-before-later-fault : readLinks (file 5 2 (pair 0 5 ∷ []) (5 ∷ [])) ≡ refuse 4 5
+  equal-before-later-fault : readLinks (file 5 3 (pair 0 1 ∷ pair 3 3 ∷ pair 0 9 ∷ []) (5 ∷ [])) ≡ refuse 5 10
+  fault-before-after-end : readLinks (file 5 1 (pair 0 5 ∷ []) (5 ∷ 5 ∷ [])) ≡ refuse 4 5
   -- read back in index order, the lower account first
   read-order : readBack triangle ≡ file 3 3 (pair 0 1 ∷ pair 0 2 ∷ pair 1 2 ∷ []) (5 ∷ [])
   -- answers: an account in two groups, the strongest, nested links, a repeat, an account without links
@@ -139,25 +148,6 @@ pub record RuleCases : Type 0 where
   repeat-account : answer nested (ask-all (accounts (5 ∷ 0 ∷ 5 ∷ []))) ≡ passed (numbers (1 ∷ 2 ∷ []))
   no-links : answer nested (ask-all (accounts (7 ∷ []))) ≡ passed (numbers [])
   strong-itself : answer graphB (ask-joined 1 0 0 1) ≡ passed (number 4)
-  -- the window's checks: 8, 9, 10, 11
-  no-account-named : answer nested (ask-all []) ≡ refuse 8 0
-  odd-length : answer nested (ask-strongest (0 ∷ [])) ≡ refuse 8 0
-  sixteen : answer triangle (ask-all (accounts (0 ∷ 0 ∷ 0 ∷ 0 ∷ 0 ∷ 0 ∷ 0 ∷ 0 ∷ 0 ∷ 0 ∷ 0 ∷ 0 ∷ 0 ∷ 0 ∷ 0 ∷ 0 ∷ []))) ≡ passed (numbers (0 ∷ []))
-  seventeen : answer triangle (ask-all (accounts (0 ∷ 0 ∷ 0 ∷ 0 ∷ 0 ∷ 0 ∷ 0 ∷ 0 ∷ 0 ∷ 0 ∷ 0 ∷ 0 ∷ 0 ∷ 0 ∷ 0 ∷ 0 ∷ 0 ∷ []))) ≡ refuse 8 0
-  count-before-account : answer nested (ask-groups-at 2 (0 ∷ 8 ∷ 0 ∷ [])) ≡ refuse 8 0
-  account-before-level : answer nested (ask-groups-at 2 (accounts (8 ∷ []))) ≡ refuse 9 0
-  account-before-level-F : answer nested (ask-links 65 0 8) ≡ refuse 9 0
-  level-2 : answer nested (ask-groups-at 2 (accounts (6 ∷ []))) ≡ refuse 10 0
-  level-3 : answer triangle (ask-links 3 1 0) ≡ passed (numbers (0 ∷ 1 ∷ 2 ∷ []))
-  level-64 : answer triangle (ask-links 64 0 1) ≡ passed (numbers [])
-  level-65 : answer nested (ask-links 65 0 1) ≡ refuse 10 0
-  account-before-link : answer nested (ask-strength 0 8) ≡ refuse 9 0
-  second-link-outside : answer triangle (ask-joined 0 1 0 3) ≡ refuse 9 0
-  outside-before-no-link : answer nested (ask-joined 5 6 0 8) ≡ refuse 9 0
-  second-link-missing : answer nested (ask-joined 0 1 5 6) ≡ refuse 11 0
-  equal-ends : answer nested (ask-strength 3 3) ≡ refuse 11 0
-  level-before-link : answer nested (ask-links 65 5 6) ≡ refuse 10 0
-  no-such-link : answer nested (ask-links 64 5 6) ≡ refuse 11 0
 
 pub rule-cases : RuleCases
 unfolding kite twoApart nested graphB triangle pair file headOnly accounts graphOf forest groups index rows bodyLength readLinks readBack answer
@@ -179,16 +169,20 @@ rule-cases = record {
   cut-head = refl;
   wrong-first-kind = refl;
   head-alone = refl;
+  kind-before-n = refl;
+  kind-before-m = refl;
+  cut-before-m = refl;
   n-before-m = refl;
-  most-accounts = refl;
-  most-links = refl;
-  too-many-links = refl;
+  high-n-before-m = refl;
   no-end = refl;
   early-end = refl;
   late-end = refl;
   after-end = refl;
   cut-link = refl;
   cut-before-high = refl;
+  cut-before-equal = refl;
+  cut-before-again = refl;
+  kind-before-high = refl;
   first-account-too-high = refl;
   second-account-too-high = refl;
   high-before-equal = refl;
@@ -196,6 +190,9 @@ rule-cases = record {
   pair-again = refl;
   pair-again-turned = refl;
   again-before-later-fault = refl;
+  high-before-later-fault = refl;
+  equal-before-later-fault = refl;
+  fault-before-after-end = refl;
   read-order = refl;
   all-holding = refl;
   strongest-holding = refl;
@@ -207,22 +204,161 @@ rule-cases = record {
   repeat-account = refl;
   no-links = refl;
   strong-itself = refl;
-  no-account-named = refl;
-  odd-length = refl;
-  sixteen = refl;
-  seventeen = refl;
-  count-before-account = refl;
-  account-before-level = refl;
-  account-before-level-F = refl;
-  level-2 = refl;
-  level-3 = refl;
-  level-64 = refl;
-  level-65 = refl;
-  account-before-link = refl;
-  second-link-outside = refl;
-  outside-before-no-link = refl;
-  second-link-missing = refl;
-  equal-ends = refl;
-  level-before-link = refl;
-  no-such-link = refl;
+}
+
+-- ---- the window's checks, 8 to 11: every account, link and level that each question looks at, and every order
+
+pub record WindowCases : Type 0 where
+  -- 8 of C, D and E: none named, an odd length, sixteen and seventeen
+  C-none-named : answer triangle (ask-groups-at 3 []) ≡ refuse 8 0
+  D-none-named : answer triangle (ask-strongest []) ≡ refuse 8 0
+  E-none-named : answer triangle (ask-all []) ≡ refuse 8 0
+  C-odd-length : answer triangle (ask-groups-at 3 (0 ∷ 0 ∷ 0 ∷ [])) ≡ refuse 8 0
+  D-odd-length : answer triangle (ask-strongest (0 ∷ [])) ≡ refuse 8 0
+  E-odd-length : answer triangle (ask-all (0 ∷ 0 ∷ 0 ∷ [])) ≡ refuse 8 0
+  C-sixteen : answer triangle (ask-groups-at 3 (replicate 32 0)) ≡ passed (numbers (0 ∷ []))
+  D-sixteen : answer triangle (ask-strongest (replicate 32 0)) ≡ passed (numbers (0 ∷ []))
+  E-sixteen : answer triangle (ask-all (replicate 32 0)) ≡ passed (numbers (0 ∷ []))
+  C-seventeen : answer triangle (ask-groups-at 3 (replicate 34 0)) ≡ refuse 8 0
+  D-seventeen : answer triangle (ask-strongest (replicate 34 0)) ≡ refuse 8 0
+  E-seventeen : answer triangle (ask-all (replicate 34 0)) ≡ refuse 8 0
+  -- 9: n itself is the first account outside; the first and the last that is named
+  A-first-outside : answer triangle (ask-strength 3 1) ≡ refuse 9 0
+  A-second-outside : answer triangle (ask-strength 1 3) ≡ refuse 9 0
+  B-first-outside : answer triangle (ask-joined 3 1 0 1) ≡ refuse 9 0
+  B-second-outside : answer triangle (ask-joined 1 3 0 1) ≡ refuse 9 0
+  B-third-outside : answer triangle (ask-joined 0 1 3 1) ≡ refuse 9 0
+  B-fourth-outside : answer triangle (ask-joined 0 1 1 3) ≡ refuse 9 0
+  C-first-outside : answer triangle (ask-groups-at 3 (accounts (3 ∷ 0 ∷ []))) ≡ refuse 9 0
+  C-last-outside : answer triangle (ask-groups-at 3 (accounts (0 ∷ 3 ∷ []))) ≡ refuse 9 0
+  D-first-outside : answer triangle (ask-strongest (accounts (3 ∷ 0 ∷ []))) ≡ refuse 9 0
+  D-last-outside : answer triangle (ask-strongest (accounts (0 ∷ 3 ∷ []))) ≡ refuse 9 0
+  E-first-outside : answer triangle (ask-all (accounts (3 ∷ 0 ∷ []))) ≡ refuse 9 0
+  E-last-outside : answer triangle (ask-all (accounts (0 ∷ 3 ∷ []))) ≡ refuse 9 0
+  F-first-outside : answer triangle (ask-links 3 3 1) ≡ refuse 9 0
+  F-second-outside : answer triangle (ask-links 3 1 3) ≡ refuse 9 0
+  -- 10: far below and far above (beside the limits: Figures)
+  C-level-0 : answer triangle (ask-groups-at 0 (accounts (0 ∷ []))) ≡ refuse 10 0
+  C-level-256 : answer triangle (ask-groups-at 256 (accounts (0 ∷ []))) ≡ refuse 10 0
+  F-level-0 : answer triangle (ask-links 0 0 1) ≡ refuse 10 0
+  F-level-256 : answer triangle (ask-links 256 0 1) ≡ refuse 10 0
+  -- 11: every pair, and equal accounts are no link
+  A-no-link : answer nested (ask-strength 5 6) ≡ refuse 11 0
+  A-equal-ends : answer nested (ask-strength 3 3) ≡ refuse 11 0
+  B-first-no-link : answer nested (ask-joined 5 6 0 1) ≡ refuse 11 0
+  B-second-no-link : answer nested (ask-joined 0 1 5 6) ≡ refuse 11 0
+  F-no-link : answer nested (ask-links 3 5 6) ≡ refuse 11 0
+  -- the order
+  C-count-before-account : answer triangle (ask-groups-at 3 (0 ∷ 3 ∷ 0 ∷ [])) ≡ refuse 8 0
+  C-count-before-level : answer triangle (ask-groups-at 2 []) ≡ refuse 8 0
+  C-account-before-level : answer triangle (ask-groups-at 2 (accounts (3 ∷ []))) ≡ refuse 9 0
+  C-account-before-high-level : answer triangle (ask-groups-at 256 (accounts (3 ∷ []))) ≡ refuse 9 0
+  D-count-before-account : answer triangle (ask-strongest (0 ∷ 3 ∷ 0 ∷ [])) ≡ refuse 8 0
+  E-count-before-account : answer triangle (ask-all (0 ∷ 3 ∷ 0 ∷ [])) ≡ refuse 8 0
+  B-account-before-link : answer nested (ask-joined 5 6 0 8) ≡ refuse 9 0
+  F-account-before-level : answer triangle (ask-links 2 0 3) ≡ refuse 9 0
+  F-account-before-high-level : answer triangle (ask-links 256 3 0) ≡ refuse 9 0
+  F-level-before-link : answer nested (ask-links 2 5 6) ≡ refuse 10 0
+  F-high-level-before-link : answer nested (ask-links 256 5 6) ≡ refuse 10 0
+
+pub window-cases : WindowCases
+unfolding nested triangle accounts answer
+window-cases = record {
+  C-none-named = refl;
+  D-none-named = refl;
+  E-none-named = refl;
+  C-odd-length = refl;
+  D-odd-length = refl;
+  E-odd-length = refl;
+  C-sixteen = refl;
+  D-sixteen = refl;
+  E-sixteen = refl;
+  C-seventeen = refl;
+  D-seventeen = refl;
+  E-seventeen = refl;
+  A-first-outside = refl;
+  A-second-outside = refl;
+  B-first-outside = refl;
+  B-second-outside = refl;
+  B-third-outside = refl;
+  B-fourth-outside = refl;
+  C-first-outside = refl;
+  C-last-outside = refl;
+  D-first-outside = refl;
+  D-last-outside = refl;
+  E-first-outside = refl;
+  E-last-outside = refl;
+  F-first-outside = refl;
+  F-second-outside = refl;
+  C-level-0 = refl;
+  C-level-256 = refl;
+  F-level-0 = refl;
+  F-level-256 = refl;
+  A-no-link = refl;
+  A-equal-ends = refl;
+  B-first-no-link = refl;
+  B-second-no-link = refl;
+  F-no-link = refl;
+  C-count-before-account = refl;
+  C-count-before-level = refl;
+  C-account-before-level = refl;
+  C-account-before-high-level = refl;
+  D-count-before-account = refl;
+  E-count-before-account = refl;
+  B-account-before-link = refl;
+  F-account-before-level = refl;
+  F-account-before-high-level = refl;
+  F-level-before-link = refl;
+  F-high-level-before-link = refl;
+}
+
+-- ---- numbers above 255: both bytes of every field, read and written
+
+pub record FieldCases : Type 0 where
+  -- a links file: n, m and accounts
+  large-file : readLinks (1 ∷ 2 ∷ 88 ∷ 0 ∷ 1 ∷ 6 ∷ 2 ∷ 87 ∷ 1 ∷ 44 ∷ 5 ∷ []) ≡ accepted 600 (pair 599 300 ∷ [])
+  links-256 : readLinks (1 ∷ 0 ∷ 5 ∷ 1 ∷ 0 ∷ 5 ∷ []) ≡ refuse 1 5
+  first-account-256 : readLinks (1 ∷ 0 ∷ 5 ∷ 0 ∷ 1 ∷ 6 ∷ 1 ∷ 0 ∷ 0 ∷ 1 ∷ 5 ∷ []) ≡ refuse 4 5
+  second-account-256 : readLinks (1 ∷ 0 ∷ 5 ∷ 0 ∷ 1 ∷ 6 ∷ 0 ∷ 1 ∷ 1 ∷ 0 ∷ 5 ∷ []) ≡ refuse 4 5
+  pair-written : pairBytes (pair 258 772) ≡ 6 ∷ 1 ∷ 2 ∷ 3 ∷ 4 ∷ []
+  head-written : take 10 (writeLinks 600 (replicate 300 (pair 258 772))) ≡ 1 ∷ 2 ∷ 88 ∷ 1 ∷ 44 ∷ 6 ∷ 1 ∷ 2 ∷ 3 ∷ 4 ∷ []
+  -- an index: n, m, accounts, links, groups
+  large-index : indexBytes (graphOf 600 []) ≡ 1 ∷ 2 ∷ 88 ∷ 0 ∷ 0 ∷ 5 ∷ []
+  large-index-read : readIndex (1 ∷ 2 ∷ 88 ∷ 0 ∷ 0 ∷ 5 ∷ []) ≡ passed (graphOf 600 [])
+  index-written : encode largeRows ≡ largeBytes
+  index-says : decode largeBytes ≡ largeRows
+  -- accounts that are lent; counts and numbers that are answered
+  accounts-lent : accountsIn (1 ∷ 2 ∷ 3 ∷ 4 ∷ []) ≡ 258 ∷ 772 ∷ []
+  account-256 : answer triangle (ask-all (1 ∷ 0 ∷ [])) ≡ refuse 9 0
+  account-299 : answer (graphOf 300 []) (ask-strongest (1 ∷ 43 ∷ [])) ≡ passed (numbers [])
+  account-300 : answer (graphOf 300 []) (ask-strongest (1 ∷ 44 ∷ [])) ≡ refuse 9 0
+  list-written : answerBytes (numbers (258 ∷ 772 ∷ [])) ≡ 0 ∷ 2 ∷ 1 ∷ 2 ∷ 3 ∷ 4 ∷ []
+  list-count : take 2 (answerBytes (numbers (replicate 258 7))) ≡ 1 ∷ 2 ∷ []
+  list-value : answerValue (numbers (replicate 258 7)) ≡ 518
+  -- the tally's four bytes
+  tally-written : tallyBytes 16909060 ≡ 1 ∷ 2 ∷ 3 ∷ 4 ∷ []
+  tally-read : tallyIn (1 ∷ 2 ∷ 3 ∷ 4 ∷ 5 ∷ []) ≡ 16909060
+
+pub field-cases : FieldCases
+unfolding pair triangle largeRows largeBytes graphOf readLinks writeLinks indexBytes readIndex encode decode answer answerBytes answerValue
+field-cases = record {
+  large-file = refl;
+  links-256 = refl;
+  first-account-256 = refl;
+  second-account-256 = refl;
+  pair-written = refl;
+  head-written = refl;
+  large-index = refl;
+  large-index-read = refl;
+  index-written = refl;
+  index-says = refl;
+  accounts-lent = refl;
+  account-256 = refl;
+  account-299 = refl;
+  account-300 = refl;
+  list-written = refl;
+  list-count = refl;
+  list-value = refl;
+  tally-written = refl;
+  tally-read = refl;
 }

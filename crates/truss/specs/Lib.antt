@@ -25,3 +25,4 @@ pub mod Demand3
 pub mod Cards
 pub mod Cases
 pub mod WholeCalls
+pub mod Figures

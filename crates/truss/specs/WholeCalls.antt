@@ -1,10 +1,11 @@
 -- Whole calls, held by computation: replies, places, every lent byte, the tally, and the text of both programs.
 use mathlib.Core.Path.{_≡_, refl}
 use mathlib.Core.List.{[], _∷_, _++_}
+use lib.ListN.{replicate}
 use Rattle.truss.specs.LinksFile.{writeLinks}
 use Rattle.truss.specs.Question.{ask-strength, ask-joined, ask-groups-at, ask-strongest, ask-all, ask-links}
 use Rattle.truss.specs.Call.{build, read, ask, askBytes, done}
-use Rattle.truss.specs.Listing.{lister, builder}
+use Rattle.truss.specs.Listing.{decimal, rowText, lister, builder}
 use Rattle.truss.specs.Cards.{pair, file, headOnly, accounts, pairsA, indexA, indexB, indexT}
 
 pub record WholeCalls : Type 0 where
@@ -17,12 +18,18 @@ pub record WholeCalls : Type 0 where
   -- read: 7 only for bytes that are no index, 12 after it
   read-tail : read (headOnly 1) (9 ∷ 9 ∷ 9 ∷ 9 ∷ 9 ∷ 9 ∷ 9 ∷ []) ≡ record { reply = done 6; buffer = 1 ∷ 0 ∷ 1 ∷ 0 ∷ 0 ∷ 5 ∷ 9 ∷ [] }
   read-A : read indexA indexA .reply ≡ done 36
+  read-triangle : read indexT (replicate 22 9)
+      ≡ record {
+        reply = done 21;
+        buffer = 1 ∷ 0 ∷ 3 ∷ 0 ∷ 3 ∷ 6 ∷ 0 ∷ 0 ∷ 0 ∷ 1 ∷ 6 ∷ 0 ∷ 0 ∷ 0 ∷ 2 ∷ 6 ∷ 0 ∷ 1 ∷ 0 ∷ 2 ∷ 5 ∷ 9 ∷ [];
+      }
   read-short : read (headOnly 1) (9 ∷ []) ≡ record { reply = record { refusal = 12; value = 0; second = 0; third = 0 }; buffer = 9 ∷ [] }
   read-refused : read (headOnly 1 ++ (5 ∷ [])) (9 ∷ []) ≡ record { reply = record { refusal = 7; value = 0; second = 0; third = 0 }; buffer = 9 ∷ [] }
   read-links-file : read (writeLinks 5 pairsA) [] ≡ record { reply = record { refusal = 7; value = 0; second = 0; third = 0 }; buffer = [] }
   -- a question: the reply, the answer buffer, the tally
   counted : ask indexT (ask-strength 1 0) (9 ∷ []) 7 ≡ record { reply = done 3; buffer = 9 ∷ []; tally = 8 }
   at-rest : ask indexT (ask-strength 1 0) [] 4_294_967_295 ≡ record { reply = done 3; buffer = []; tally = 4_294_967_295 }
+  last-counted : ask indexT (ask-strength 1 0) [] 4_294_967_294 ≡ record { reply = done 3; buffer = []; tally = 4_294_967_295 }
   refused-not-counted : ask indexT (ask-strength 0 3) (9 ∷ []) 7
       ≡ record { reply = record { refusal = 9; value = 0; second = 0; third = 0 }; buffer = 9 ∷ []; tally = 7 }
   no-index-first : ask (headOnly 1 ++ (5 ∷ [])) (ask-all []) [] 7 ≡ record { reply = record { refusal = 7; value = 0; second = 0; third = 0 }; buffer = []; tally = 7 }
@@ -32,24 +39,43 @@ pub record WholeCalls : Type 0 where
       ≡ record { reply = record { refusal = 12; value = 0; second = 0; third = 0 }; buffer = 9 ∷ 9 ∷ 9 ∷ []; tally = 7 }
   empty-list : ask indexT (ask-links 4 0 1) (9 ∷ 9 ∷ 9 ∷ []) 7 ≡ record { reply = done 2; buffer = 0 ∷ 0 ∷ 9 ∷ []; tally = 8 }
   level-before-room : ask indexT (ask-links 2 0 1) [] 7 ≡ record { reply = record { refusal = 10; value = 0; second = 0; third = 0 }; buffer = []; tally = 7 }
+  C-level-before-room : ask indexT (ask-groups-at 2 (accounts (0 ∷ []))) [] 7 ≡ record { reply = record { refusal = 10; value = 0; second = 0; third = 0 }; buffer = []; tally = 7 }
+  count-before-room : ask indexT (ask-strongest []) (9 ∷ []) 7 ≡ record { reply = record { refusal = 8; value = 0; second = 0; third = 0 }; buffer = 9 ∷ []; tally = 7 }
+  account-before-room : ask indexT (ask-all (accounts (3 ∷ []))) [] 7 ≡ record { reply = record { refusal = 9; value = 0; second = 0; third = 0 }; buffer = []; tally = 7 }
+  link-before-room : ask indexT (ask-links 3 0 0) [] 7 ≡ record { reply = record { refusal = 11; value = 0; second = 0; third = 0 }; buffer = []; tally = 7 }
   B-3-at-4 : ask indexB (ask-groups-at 4 (accounts (3 ∷ []))) (9 ∷ 9 ∷ 9 ∷ 9 ∷ 9 ∷ 9 ∷ 9 ∷ []) 0
       ≡ record { reply = done 6; buffer = 0 ∷ 2 ∷ 0 ∷ 0 ∷ 0 ∷ 1 ∷ 9 ∷ []; tally = 1 }
   B-2-3-and-3-4 : ask indexB (ask-joined 3 2 4 3) [] 0 ≡ record { reply = done 3; buffer = []; tally = 1 }
   -- the desk as bytes: high byte first, bytes beyond stay, too few are 12 and checked last
   desk-bytes : askBytes indexT (ask-strength 0 1) [] (0 ∷ 0 ∷ 0 ∷ 255 ∷ 9 ∷ []) ≡ record { reply = done 3; buffer = []; desk = 0 ∷ 0 ∷ 1 ∷ 0 ∷ 9 ∷ [] }
   desk-at-rest : askBytes indexT (ask-strength 0 1) [] (255 ∷ 255 ∷ 255 ∷ 255 ∷ []) ≡ record { reply = done 3; buffer = []; desk = 255 ∷ 255 ∷ 255 ∷ 255 ∷ [] }
+  desk-carry : askBytes indexT (ask-strength 0 1) [] (1 ∷ 255 ∷ 255 ∷ 255 ∷ []) ≡ record { reply = done 3; buffer = []; desk = 2 ∷ 0 ∷ 0 ∷ 0 ∷ [] }
+  desk-list : askBytes indexT (ask-all (accounts (2 ∷ []))) (9 ∷ 9 ∷ 9 ∷ 9 ∷ 9 ∷ []) (0 ∷ 0 ∷ 0 ∷ 7 ∷ [])
+      ≡ record { reply = done 4; buffer = 0 ∷ 1 ∷ 0 ∷ 0 ∷ 9 ∷ []; desk = 0 ∷ 0 ∷ 0 ∷ 8 ∷ [] }
+  desk-list-short : askBytes indexT (ask-all (accounts (2 ∷ []))) (9 ∷ 9 ∷ 9 ∷ []) (0 ∷ 0 ∷ 0 ∷ 7 ∷ [])
+      ≡ record { reply = record { refusal = 12; value = 0; second = 0; third = 0 }; buffer = 9 ∷ 9 ∷ 9 ∷ []; desk = 0 ∷ 0 ∷ 0 ∷ 7 ∷ [] }
   desk-refused : askBytes indexT (ask-strength 0 0) [] (0 ∷ 0 ∷ 0 ∷ 7 ∷ []) ≡ record { reply = record { refusal = 11; value = 0; second = 0; third = 0 }; buffer = []; desk = 0 ∷ 0 ∷ 0 ∷ 7 ∷ [] }
   desk-short : askBytes indexT (ask-all (accounts (2 ∷ []))) (9 ∷ 9 ∷ 9 ∷ 9 ∷ []) (0 ∷ 0 ∷ 0 ∷ [])
       ≡ record { reply = record { refusal = 12; value = 0; second = 0; third = 0 }; buffer = 9 ∷ 9 ∷ 9 ∷ 9 ∷ []; desk = 0 ∷ 0 ∷ 0 ∷ [] }
   desk-last : askBytes indexT (ask-strength 0 3) [] [] ≡ record { reply = record { refusal = 9; value = 0; second = 0; third = 0 }; buffer = []; desk = [] }
-  -- the programs' text: `refused 7`, `groups 0`, `refused 5 5`
+  desk-after-link : askBytes indexT (ask-strength 0 0) [] (7 ∷ []) ≡ record { reply = record { refusal = 11; value = 0; second = 0; third = 0 }; buffer = []; desk = 7 ∷ [] }
+  desk-after-index : askBytes (headOnly 1 ++ (5 ∷ [])) (ask-all []) [] [] ≡ record { reply = record { refusal = 7; value = 0; second = 0; third = 0 }; buffer = []; desk = [] }
+  -- the programs' text: `refused 7`, `groups 0`, `refused 5 5`, `refused 4 10`; numbers of one to ten digits
   lister-refused : lister [] ≡ 0x72 ∷ 0x65 ∷ 0x66 ∷ 0x75 ∷ 0x73 ∷ 0x65 ∷ 0x64 ∷ 0x20 ∷ 0x37 ∷ 0x0A ∷ []
   lister-no-groups : lister (headOnly 1) ≡ 0x67 ∷ 0x72 ∷ 0x6F ∷ 0x75 ∷ 0x70 ∷ 0x73 ∷ 0x20 ∷ 0x30 ∷ 0x0A ∷ []
   builder-A : builder (writeLinks 5 pairsA) ≡ indexA
   builder-refused : builder (file 5 1 (pair 3 3 ∷ []) (5 ∷ [])) ≡ 0x72 ∷ 0x65 ∷ 0x66 ∷ 0x75 ∷ 0x73 ∷ 0x65 ∷ 0x64 ∷ 0x20 ∷ 0x35 ∷ 0x20 ∷ 0x35 ∷ 0x0A ∷ []
+  builder-number-place : builder (file 5 2 (pair 0 1 ∷ pair 4 5 ∷ []) (5 ∷ [])) ≡ 0x72 ∷ 0x65 ∷ 0x66 ∷ 0x75 ∷ 0x73 ∷ 0x65 ∷ 0x64 ∷ 0x20 ∷ 0x34 ∷ 0x20 ∷ 0x31 ∷ 0x30 ∷ 0x0A ∷ []
+  number-0 : decimal 0 ≡ 0x30 ∷ []
+  number-10 : decimal 10 ≡ 0x31 ∷ 0x30 ∷ []
+  number-100 : decimal 100 ≡ 0x31 ∷ 0x30 ∷ 0x30 ∷ []
+  number-9876 : decimal 9876 ≡ 0x39 ∷ 0x38 ∷ 0x37 ∷ 0x36 ∷ []
+  number-longest : decimal 4_294_967_295 ≡ 0x34 ∷ 0x32 ∷ 0x39 ∷ 0x34 ∷ 0x39 ∷ 0x36 ∷ 0x37 ∷ 0x32 ∷ 0x39 ∷ 0x35 ∷ []
+  row-text : rowText 205 (record { strength = 64; parent = 206; links = 2016; accounts = 63; lo = 1022; hi = 1023 })
+      ≡ 0x32 ∷ 0x30 ∷ 0x35 ∷ 0x20 ∷ 0x36 ∷ 0x34 ∷ 0x20 ∷ 0x32 ∷ 0x30 ∷ 0x36 ∷ 0x20 ∷ 0x32 ∷ 0x30 ∷ 0x31 ∷ 0x36 ∷ 0x20 ∷ 0x36 ∷ 0x33 ∷ 0x20 ∷ 0x31 ∷ 0x30 ∷ 0x32 ∷ 0x32 ∷ 0x20 ∷ 0x31 ∷ 0x30 ∷ 0x32 ∷ 0x33 ∷ 0x0A ∷ []
 
 pub whole-calls : WholeCalls
-unfolding indexT indexB indexA pairsA pair file headOnly accounts writeLinks build read ask askBytes lister builder
+unfolding indexT indexB indexA pairsA pair file headOnly accounts writeLinks build read ask askBytes rowText lister builder
 whole-calls = record {
   build-tail = refl;
   build-exact = refl;
@@ -58,11 +84,13 @@ whole-calls = record {
   build-A = refl;
   read-tail = refl;
   read-A = refl;
+  read-triangle = refl;
   read-short = refl;
   read-refused = refl;
   read-links-file = refl;
   counted = refl;
   at-rest = refl;
+  last-counted = refl;
   refused-not-counted = refl;
   no-index-first = refl;
   list-written = refl;
@@ -70,15 +98,31 @@ whole-calls = record {
   list-short = refl;
   empty-list = refl;
   level-before-room = refl;
+  C-level-before-room = refl;
+  count-before-room = refl;
+  account-before-room = refl;
+  link-before-room = refl;
   B-3-at-4 = refl;
   B-2-3-and-3-4 = refl;
   desk-bytes = refl;
   desk-at-rest = refl;
+  desk-carry = refl;
+  desk-list = refl;
+  desk-list-short = refl;
   desk-refused = refl;
   desk-short = refl;
   desk-last = refl;
+  desk-after-link = refl;
+  desk-after-index = refl;
   lister-refused = refl;
   lister-no-groups = refl;
   builder-A = refl;
   builder-refused = refl;
+  builder-number-place = refl;
+  number-0 = refl;
+  number-10 = refl;
+  number-100 = refl;
+  number-9876 = refl;
+  number-longest = refl;
+  row-text = refl;
 }

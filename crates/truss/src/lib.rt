@@ -1,9 +1,10 @@
 // The definitions of the linked-account index stand in specs/. The check looks at a crate only if it has a function: this one promises the worked cases.
-ghost use Rattle.truss.specs.Cases.{Cases, RuleCases};
+ghost use Rattle.truss.specs.Cases.{Cases, RuleCases, WindowCases, FieldCases};
 ghost use Rattle.truss.specs.WholeCalls.{WholeCalls};
+ghost use Rattle.truss.specs.Figures.{Figures};
 
 pub fn definitions()
-    ensures { λ _. ⌜ Cases × RuleCases × WholeCalls ⌝ }
+    ensures { λ _. ⌜ Cases × RuleCases × WindowCases × FieldCases × WholeCalls × Figures ⌝ }
 {
     return;
 }
