@@ -29,10 +29,11 @@ pub mod Answers
 pub mod Ordering
 pub mod Accepted
 pub mod Decoding
--- demand 3; the reader
+-- demand 3; the reader; refused calls
 pub mod Agree
 pub mod Demand3
 pub mod Reading
+pub mod Refused
 -- the order in which a program writes joins and groups
 pub mod JoinOrder
 pub mod GroupOrder

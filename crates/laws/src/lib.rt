@@ -1,8 +1,10 @@
-// The laws of the definitions stand in proofs/. The check looks at a crate only if it has a function: this one promises what they lead to, demand 3.
+// The laws of the definitions stand in proofs/. The check looks at a crate only if it has a function: this one promises what they lead to, demand 3 and
+// what a refused call leaves.
 ghost use Rattle.truss.specs.Demand3.{Demand3, OnlyShortMemory};
+ghost use Rattle.truss.specs.Kept.{RefusalKeeps};
 
 pub fn laws()
-    ensures { λ _. ⌜ Demand3 × OnlyShortMemory ⌝ }
+    ensures { λ _. ⌜ Demand3 × OnlyShortMemory × RefusalKeeps ⌝ }
 {
     return;
 }

@@ -18,6 +18,8 @@ pub mod IndexFile
 pub mod Question
 pub mod Call
 pub mod Listing
+-- what a refused call leaves
+pub mod Kept
 -- demand 3
 pub mod Stored
 pub mod Demand3
