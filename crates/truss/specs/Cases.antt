@@ -239,9 +239,9 @@ pub record WindowCases : Type 0 where
   F-second-outside : answer triangle (ask-links 3 1 3) ≡ refuse 9 0
   -- 10: far below and far above (beside the limits: Figures)
   C-level-0 : answer triangle (ask-groups-at 0 (accounts (0 ∷ []))) ≡ refuse 10 0
-  C-level-256 : answer triangle (ask-groups-at 256 (accounts (0 ∷ []))) ≡ refuse 10 0
+  C-level-65535 : answer triangle (ask-groups-at 65535 (accounts (0 ∷ []))) ≡ refuse 10 0
   F-level-0 : answer triangle (ask-links 0 0 1) ≡ refuse 10 0
-  F-level-256 : answer triangle (ask-links 256 0 1) ≡ refuse 10 0
+  F-level-65535 : answer triangle (ask-links 65535 0 1) ≡ refuse 10 0
   -- 11: every pair, and equal accounts are no link
   A-no-link : answer nested (ask-strength 5 6) ≡ refuse 11 0
   A-equal-ends : answer nested (ask-strength 3 3) ≡ refuse 11 0
@@ -252,14 +252,14 @@ pub record WindowCases : Type 0 where
   C-count-before-account : answer triangle (ask-groups-at 3 (0 ∷ 3 ∷ 0 ∷ [])) ≡ refuse 8 0
   C-count-before-level : answer triangle (ask-groups-at 2 []) ≡ refuse 8 0
   C-account-before-level : answer triangle (ask-groups-at 2 (accounts (3 ∷ []))) ≡ refuse 9 0
-  C-account-before-high-level : answer triangle (ask-groups-at 256 (accounts (3 ∷ []))) ≡ refuse 9 0
+  C-account-before-high-level : answer triangle (ask-groups-at 65535 (accounts (3 ∷ []))) ≡ refuse 9 0
   D-count-before-account : answer triangle (ask-strongest (0 ∷ 3 ∷ 0 ∷ [])) ≡ refuse 8 0
   E-count-before-account : answer triangle (ask-all (0 ∷ 3 ∷ 0 ∷ [])) ≡ refuse 8 0
   B-account-before-link : answer nested (ask-joined 5 6 0 8) ≡ refuse 9 0
   F-account-before-level : answer triangle (ask-links 2 0 3) ≡ refuse 9 0
-  F-account-before-high-level : answer triangle (ask-links 256 3 0) ≡ refuse 9 0
+  F-account-before-high-level : answer triangle (ask-links 65535 3 0) ≡ refuse 9 0
   F-level-before-link : answer nested (ask-links 2 5 6) ≡ refuse 10 0
-  F-high-level-before-link : answer nested (ask-links 256 5 6) ≡ refuse 10 0
+  F-high-level-before-link : answer nested (ask-links 65535 5 6) ≡ refuse 10 0
 
 pub window-cases : WindowCases
 unfolding nested triangle accounts answer
@@ -291,9 +291,9 @@ window-cases = record {
   F-first-outside = refl;
   F-second-outside = refl;
   C-level-0 = refl;
-  C-level-256 = refl;
+  C-level-65535 = refl;
   F-level-0 = refl;
-  F-level-256 = refl;
+  F-level-65535 = refl;
   A-no-link = refl;
   A-equal-ends = refl;
   B-first-no-link = refl;
