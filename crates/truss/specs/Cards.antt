@@ -84,6 +84,24 @@ nested =
     (pair 0 1 ∷ pair 0 2 ∷ pair 0 3 ∷ pair 0 4 ∷ pair 1 2 ∷ pair 1 3 ∷ pair 1 4 ∷ pair 2 3 ∷ pair 2 4 ∷ pair 3 4
     ∷ pair 0 5 ∷ pair 1 5 ∷ pair 2 5 ∷ pair 0 6 ∷ pair 1 6 ∷ [])
 
+-- at 4 the link 0-2 falls in the third round of peeling
+unfoldable pub slow : Graph
+unfolding pair graphOf
+slow = graphOf 6 (pair 0 2 ∷ pair 0 3 ∷ pair 0 4 ∷ pair 0 5 ∷ pair 1 2 ∷ pair 1 4 ∷ pair 1 5 ∷ pair 2 4 ∷ pair 2 5 ∷ pair 3 4 ∷ pair 3 5 ∷ [])
+
+-- card B with other numbers: the weak side of the triangle between the groups is its first (2-3 of 2-3-6), and its last (1-4 of 0-1-4)
+unfoldable pub weakFirst : Graph
+unfolding pair graphOf
+weakFirst =
+    graphOf 7
+    (pair 0 1 ∷ pair 0 2 ∷ pair 0 6 ∷ pair 1 2 ∷ pair 1 6 ∷ pair 2 6 ∷ pair 3 4 ∷ pair 3 5 ∷ pair 3 6 ∷ pair 4 5 ∷ pair 4 6 ∷ pair 5 6 ∷ pair 2 3 ∷ [])
+
+unfoldable pub weakLast : Graph
+unfolding pair graphOf
+weakLast =
+    graphOf 7
+    (pair 0 1 ∷ pair 0 2 ∷ pair 0 3 ∷ pair 1 2 ∷ pair 1 3 ∷ pair 2 3 ∷ pair 0 4 ∷ pair 0 5 ∷ pair 0 6 ∷ pair 4 5 ∷ pair 4 6 ∷ pair 5 6 ∷ pair 1 4 ∷ [])
+
 -- two triangles that share a link: tells the order of joins of equal weight
 unfoldable pub kite : Graph
 unfolding pair graphOf

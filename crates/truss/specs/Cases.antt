@@ -7,6 +7,7 @@ use mathlib.Core.List.{[], _∷_}
 use lib.ListN.{length, take, replicate}
 use Rattle.truss.specs.Limits.{noGroup}
 use Rattle.truss.specs.Graph.{link, graphOf, member, support}
+use Rattle.truss.specs.Strength.{strength, weight}
 use Rattle.truss.specs.Forest.{join, forest}
 use Rattle.truss.specs.Group.{groups}
 use Rattle.truss.specs.Refusal.{passed, refuse}
@@ -17,7 +18,7 @@ use Rattle.truss.specs.IndexFile.{readIndex}
 use Rattle.truss.specs.Question.{accountsIn, answer, ask-strength, ask-joined, ask-groups-at, ask-strongest, ask-all, ask-links, number, numbers}
 use Rattle.truss.specs.Call.{answerBytes, answerValue, tallyBytes, tallyIn}
 use Rattle.truss.specs.Listing.{rows, lister}
-use Rattle.truss.specs.Cards.{pair, file, headOnly, accounts, pairsA, pairsA′, graphA, indexA, graphB, indexB, bowTie, five, nested, kite, twoApart, triangle, largeRows, largeBytes}
+use Rattle.truss.specs.Cards.{pair, file, headOnly, accounts, pairsA, pairsA′, graphA, indexA, graphB, indexB, bowTie, five, nested, slow, weakFirst, weakLast, kite, twoApart, triangle, largeRows, largeBytes}
 
 -- ---- document 01, "Meetings on paper (P: proved)"
 
@@ -84,9 +85,13 @@ cases = record {
 -- ---- ties, and every order of the checks of a links file
 
 pub record RuleCases : Type 0 where
+  -- peeling goes on for as long as it takes away; a triangle weighs what its weakest side does, whichever that is
+  three-rounds : strength slow (link 0 2) ≡ 3
+  weak-first-side : weight weakFirst (record { a = 2; b = 3; c = 6 }) ≡ 3
+  weak-last-side : weight weakLast (record { a = 0; b = 1; c = 4 }) ≡ 3
   -- ties: joins of equal weight, groups of equal strength, the smallest of several containing groups
   equal-weights : forest kite ≡ join 0 1 3 ∷ join 0 3 3 ∷ join 1 2 3 ∷ join 1 4 3 ∷ []
-  B-forest : forest graphB
+  B-joins-written : index graphB .joins
       ≡ join 0 1 4 ∷ join 0 2 4 ∷ join 0 3 4 ∷ join 0 4 4 ∷ join 1 5 4 ∷ join 7 8 4 ∷ join 7 9 4 ∷ join 7 10 4 ∷ join 7 11 4 ∷ join 8 12 4
       ∷ join 5 6 3 ∷ join 5 7 3 ∷ []
   equal-strengths : groups twoApart ≡ record { strength = 3; members = 0 ∷ 1 ∷ 5 ∷ [] } ∷ record { strength = 3; members = 2 ∷ 3 ∷ 4 ∷ [] } ∷ []
@@ -96,6 +101,10 @@ pub record RuleCases : Type 0 where
       ∷ record { strength = 3; parent = noGroup; links = 15; accounts = 7; lo = 0; hi = 1 } ∷ []
   parents-written : index nested .groups
       ≡ record { parent = 1; strength = 5; least = 0 } ∷ record { parent = 2; strength = 4; least = 0 } ∷ record { parent = noGroup; strength = 3; least = 0 } ∷ []
+  links-written : take 6 (index nested .links)
+      ≡ record { lo = 0; hi = 1; strength = 5; group = 0 } ∷ record { lo = 0; hi = 2; strength = 5; group = 0 }
+      ∷ record { lo = 0; hi = 3; strength = 5; group = 0 } ∷ record { lo = 0; hi = 4; strength = 5; group = 0 }
+      ∷ record { lo = 0; hi = 5; strength = 4; group = 1 } ∷ record { lo = 0; hi = 6; strength = 3; group = 2 } ∷ []
   -- the table of kinds
   unknown-kind-0 : bodyLength 0 ≡ none
   head-body : bodyLength 1 ≡ some 4
@@ -137,12 +146,16 @@ pub record RuleCases : Type 0 where
   fault-before-after-end : readLinks (file 5 1 (pair 0 5 ∷ []) (5 ∷ 5 ∷ [])) ≡ refuse 4 5
   -- read back in index order, the lower account first
   read-order : readBack triangle ≡ file 3 3 (pair 0 1 ∷ pair 0 2 ∷ pair 1 2 ∷ []) (5 ∷ [])
-  -- answers: an account in two groups, the strongest, nested links, a repeat, an account without links
+  -- 7 has place 0, whatever is wrong with the links that the bytes name
+  no-index-place : readIndex (1 ∷ 0 ∷ 5 ∷ 0 ∷ 1 ∷ 2 ∷ 0 ∷ 3 ∷ 0 ∷ 3 ∷ 2 ∷ 255 ∷ 255 ∷ 5 ∷ []) ≡ refuse 7 0
+  -- answers: an account in two groups, the strongest, k below the strength, nested links, a repeat, an account without links
   all-holding : answer nested (ask-all (accounts (0 ∷ 5 ∷ []))) ≡ passed (numbers (1 ∷ 2 ∷ []))
   strongest-holding : answer nested (ask-strongest (accounts (0 ∷ 5 ∷ []))) ≡ passed (numbers (1 ∷ []))
   two-strongest : answer graphB (ask-strongest (accounts (3 ∷ []))) ≡ passed (numbers (0 ∷ 1 ∷ []))
   all-of-3 : answer graphB (ask-all (accounts (3 ∷ []))) ≡ passed (numbers (0 ∷ 1 ∷ 2 ∷ []))
+  B-3-at-3 : answer graphB (ask-groups-at 3 (accounts (3 ∷ []))) ≡ passed (numbers (2 ∷ []))
   links-of-group : answer graphB (ask-links 4 4 3) ≡ passed (numbers (7 ∷ 8 ∷ 9 ∷ 10 ∷ 11 ∷ 12 ∷ []))
+  links-at-lower-k : answer graphB (ask-links 3 4 3) ≡ passed (numbers (0 ∷ 1 ∷ 2 ∷ 3 ∷ 4 ∷ 5 ∷ 6 ∷ 7 ∷ 8 ∷ 9 ∷ 10 ∷ 11 ∷ 12 ∷ []))
   nested-links-too : answer nested (ask-links 4 0 5) ≡ passed (numbers (0 ∷ 1 ∷ 2 ∷ 3 ∷ 4 ∷ 6 ∷ 7 ∷ 8 ∷ 9 ∷ 11 ∷ 12 ∷ 13 ∷ 14 ∷ []))
   weak-link : answer nested (ask-links 5 0 5) ≡ passed (numbers [])
   repeat-account : answer nested (ask-all (accounts (5 ∷ 0 ∷ 5 ∷ []))) ≡ passed (numbers (1 ∷ 2 ∷ []))
@@ -150,13 +163,17 @@ pub record RuleCases : Type 0 where
   strong-itself : answer graphB (ask-joined 1 0 0 1) ≡ passed (number 4)
 
 pub rule-cases : RuleCases
-unfolding kite twoApart nested graphB triangle pair file headOnly accounts graphOf forest groups index rows bodyLength readLinks readBack answer
+unfolding slow weakFirst weakLast kite twoApart nested graphB triangle pair file headOnly accounts graphOf strength weight forest groups index rows bodyLength readLinks readBack readIndex answer
 rule-cases = record {
+  three-rounds = refl;
+  weak-first-side = refl;
+  weak-last-side = refl;
   equal-weights = refl;
-  B-forest = refl;
+  B-joins-written = refl;
   equal-strengths = refl;
   smallest-parent = refl;
   parents-written = refl;
+  links-written = refl;
   unknown-kind-0 = refl;
   head-body = refl;
   strong-link-body = refl;
@@ -194,11 +211,14 @@ rule-cases = record {
   equal-before-later-fault = refl;
   fault-before-after-end = refl;
   read-order = refl;
+  no-index-place = refl;
   all-holding = refl;
   strongest-holding = refl;
   two-strongest = refl;
   all-of-3 = refl;
+  B-3-at-3 = refl;
   links-of-group = refl;
+  links-at-lower-k = refl;
   nested-links-too = refl;
   weak-link = refl;
   repeat-account = refl;
