@@ -161,6 +161,8 @@ pub record RuleCases : Type 0 where
   repeat-account : answer nested (ask-all (accounts (5 ∷ 0 ∷ 5 ∷ []))) ≡ passed (numbers (1 ∷ 2 ∷ []))
   no-links : answer nested (ask-all (accounts (7 ∷ []))) ≡ passed (numbers [])
   strong-itself : answer graphB (ask-joined 1 0 0 1) ≡ passed (number 4)
+  joined-at-5 : answer nested (ask-joined 0 1 3 4) ≡ passed (number 5)
+  joined-around : answer nested (ask-joined 3 4 5 2) ≡ passed (number 4)
 
 pub rule-cases : RuleCases
 unfolding slow weakFirst weakLast kite twoApart nested graphB triangle pair file headOnly accounts graphOf strength weight forest groups index rows bodyLength readLinks readBack readIndex answer
@@ -224,6 +226,8 @@ rule-cases = record {
   repeat-account = refl;
   no-links = refl;
   strong-itself = refl;
+  joined-at-5 = refl;
+  joined-around = refl;
 }
 
 -- ---- the window's checks, 8 to 11: every account, link and level that each question looks at, and every order

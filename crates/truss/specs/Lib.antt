@@ -23,8 +23,9 @@ pub mod Kept
 -- demand 3
 pub mod Stored
 pub mod Demand3
--- the worked cases
+-- the worked cases; demand 3 spelled out
 pub mod Cards
 pub mod Cases
 pub mod WholeCalls
 pub mod Figures
+pub mod Spelled

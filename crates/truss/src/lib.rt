@@ -2,9 +2,10 @@
 ghost use Rattle.truss.specs.Cases.{Cases, RuleCases, WindowCases, FieldCases};
 ghost use Rattle.truss.specs.WholeCalls.{WholeCalls};
 ghost use Rattle.truss.specs.Figures.{Figures};
+ghost use Rattle.truss.specs.Spelled.{Spelled};
 
 pub fn definitions()
-    ensures { λ _. ⌜ Cases × RuleCases × WindowCases × FieldCases × WholeCalls × Figures ⌝ }
+    ensures { λ _. ⌜ Cases × RuleCases × WindowCases × FieldCases × WholeCalls × Figures × Spelled ⌝ }
 {
     return;
 }
