@@ -146,7 +146,12 @@ pub record RuleCases : Type 0 where
   fault-before-after-end : readLinks (file 5 1 (pair 0 5 ∷ []) (5 ∷ 5 ∷ [])) ≡ refuse 4 5
   -- read back in index order, the lower account first
   read-order : readBack triangle ≡ file 3 3 (pair 0 1 ∷ pair 0 2 ∷ pair 1 2 ∷ []) (5 ∷ [])
-  -- 7 has place 0, whatever is wrong with the links that the bytes name
+  -- 7: an index that is cut, or altered in one byte (the strength of the triangle's group); at 0, whatever is wrong with the links that the bytes name
+  cut-index : readIndex (1 ∷ 0 ∷ 1 ∷ 0 ∷ 0 ∷ []) ≡ refuse 7 0
+  altered-index : readIndex
+      (1 ∷ 0 ∷ 3 ∷ 0 ∷ 3 ∷ 2 ∷ 0 ∷ 0 ∷ 0 ∷ 1 ∷ 3 ∷ 0 ∷ 0 ∷ 2 ∷ 0 ∷ 0 ∷ 0 ∷ 2 ∷ 3 ∷ 0 ∷ 0 ∷ 2 ∷ 0 ∷ 1 ∷ 0 ∷ 2 ∷ 3 ∷ 0 ∷ 0
+      ∷ 3 ∷ 0 ∷ 0 ∷ 0 ∷ 1 ∷ 3 ∷ 3 ∷ 0 ∷ 0 ∷ 0 ∷ 2 ∷ 3 ∷ 4 ∷ 255 ∷ 255 ∷ 4 ∷ 0 ∷ 0 ∷ 5 ∷ [])
+      ≡ refuse 7 0
   no-index-place : readIndex (1 ∷ 0 ∷ 5 ∷ 0 ∷ 1 ∷ 2 ∷ 0 ∷ 3 ∷ 0 ∷ 3 ∷ 2 ∷ 255 ∷ 255 ∷ 5 ∷ []) ≡ refuse 7 0
   -- answers: an account in two groups, the strongest, k below the strength, nested links, a repeat, an account without links
   all-holding : answer nested (ask-all (accounts (0 ∷ 5 ∷ []))) ≡ passed (numbers (1 ∷ 2 ∷ []))
@@ -213,6 +218,8 @@ rule-cases = record {
   equal-before-later-fault = refl;
   fault-before-after-end = refl;
   read-order = refl;
+  cut-index = refl;
+  altered-index = refl;
   no-index-place = refl;
   all-holding = refl;
   strongest-holding = refl;
