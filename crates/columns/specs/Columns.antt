@@ -51,11 +51,9 @@ COLUMNS = 16
 abbrev pub HALF : ℕ
 HALF = 65536
 
-abbrev pub mostLinks : ℕ
-mostLinks = 65535
-
-abbrev pub mostAccounts : ℕ
-mostAccounts = 1024
+-- so many links can be numbered there
+abbrev pub linkBound : ℕ
+linkBound = 65535
 
 -- a number of 32 bits is below
 abbrev pub entryBound : ℕ

@@ -3,16 +3,17 @@ use mathlib.Core.Path.{_≡_}
 use mathlib.Core.List.{List}
 use Prim.Native.Nat.{ℕ, _+_, _*_, _≤_, _<_}
 use lib.ListN.{length}
+use Rattle.truss.specs.Limits.{maxAccounts}
 use Rattle.truss.specs.Graph.{Graph, linkAt}
 use Rattle.laws.proofs.Proper.{Proper}
-use Rattle.columns.specs.Columns.{cell, KEY, COLUMNS, HALF, mostLinks, mostAccounts}
+use Rattle.columns.specs.Columns.{cell, KEY, COLUMNS, HALF, linkBound}
 
 -- a proper graph of n accounts and m links, named by column 0
 pub record Named (G : Graph) (m n : ℕ) (w : List ℕ) : Type 0 where
   pub proper : Proper G
   pub accounts : G .n ≡ n
   pub count : length (G .links) ≡ m
-  pub few : m ≤ mostLinks
-  pub small : n ≤ mostAccounts
+  pub few : m ≤ linkBound
+  pub small : n ≤ maxAccounts
   pub size : length w ≡ COLUMNS * m
   pub key : (i : ℕ) → i < m → cell w m KEY i ≡ linkAt G i .lo * HALF + linkAt G i .hi

@@ -1,11 +1,12 @@
 -- Columns and rows at zero: what `wipe_range`, `wipe`, `wipe_all` and `zero` do. Assumes nothing.
 use mathlib.Core.Path.{_≡_, refl, sym, _∙_}
 use mathlib.Core.Logic.{_⊎_, inl, inr, _≢_}
-use mathlib.Core.List.{List}
-use Prim.Native.Nat.{ℕ, _+_, _*_, _-_, _≤_, _<_}
+use mathlib.Core.Path.{ap}
+use mathlib.Core.List.{List, [], _∷_}
+use Prim.Native.Nat.{ℕ, zero, suc, _+_, _*_, _-_, _/_, _%_, _≤_, _<_}
 use native.Mathlib.Omega.{arith}
 use lib.ListN.{length, getD, set, length-set}
-use lib.Seq.{getD-set-same, getD-set-other}
+use lib.Seq.{ext-getD, getD-set-same, getD-set-other}
 use Rattle.columns.specs.Columns.{cell, store, COLUMNS}
 use Rattle.laws.proofs.Numbers.{same-or-not}
 use Rattle.columns.specs.Laws.{stored, kept-entry, kept-column, length-store}
@@ -100,3 +101,28 @@ zeroed-more {n} {s₀} {s} Z l = record {
 
 pub zeroed-all : {i n : ℕ} {s s′ : List ℕ} → i ≡ n → Zeroed i s s′ → Zeroed n s s′
 zeroed-all q z = rw q at z
+
+-- ---- a whole slice at 0
+
+unfoldable pub zeros : ℕ → List ℕ
+zeros zero = []
+zeros (suc k) = 0 ∷ zeros k
+
+pub zeros-length : (k : ℕ) → length (zeros k) ≡ k
+unfolding zeros
+zeros-length zero = refl
+zeros-length (suc k) = ap suc (zeros-length k)
+
+pub zeros-at : (k i : ℕ) → getD (zeros k) i 0 ≡ 0
+unfolding zeros
+zeros-at zero i = refl
+zeros-at (suc k) zero = refl
+zeros-at (suc k) (suc i) = zeros-at k i
+
+pub all-zero : {w : List ℕ} {k : ℕ} → length w ≡ k → ((i : ℕ) → i < k → getD w i 0 ≡ 0) → w ≡ zeros k
+all-zero {w} {k} l h = ext-getD 0 w (zeros k) (l ∙ sym (zeros-length k)) (λ i p. h i (omega (arith, l, p)) ∙ sym (zeros-at k i))
+
+-- a work space at 0, cell by cell
+pub zeros-cell : (k m c i : ℕ) → cell (zeros k) m c i ≡ 0
+unfolding cell
+zeros-cell k m c i = zeros-at k (c * m + i)

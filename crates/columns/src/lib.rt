@@ -2,8 +2,11 @@
 ghost use Prim.Native.Nat.{_+_, _*_, _<_, _≤_};
 ghost use mathlib.Core.Path.{_≡_};
 ghost use lib.ListN.{length, getD};
-ghost use Rattle.columns.specs.Columns.{cell, store, entry, storeEntry, COLUMNS, mostLinks, mostAccounts, entryBound};
-ghost use Rattle.columns.specs.Wiping.{Wiped, Wiping, Cleaned, Zeroed};
+ghost use Rattle.truss.specs.Limits.{maxAccounts, maxLinks};
+ghost use Rattle.columns.specs.Columns.{cell, store, entry, storeEntry, COLUMNS, linkBound, entryBound};
+ghost use Rattle.columns.specs.Wiping.{Wiped, Wiping, Cleaned, Zeroed, zeros};
+use limits::MOST_ACCOUNTS;
+use limits::MOST_LINKS;
 
 // What each column holds while strengths are computed. Columns 1 and 2 are one, of two entries for each link.
 pub const KEY: usize = 0;
@@ -46,14 +49,14 @@ pub const ROOT_STRENGTH: usize = 15;
 
 pub const COLUMNS: usize = 16;
 
+// The numbers in a work space of the most links.
+pub const WORK: usize = COLUMNS * MOST_LINKS;
+
+// An entry for each account, and one more.
+pub const ROW: usize = MOST_ACCOUNTS + 1;
+
 // Two numbers below HALF share an entry: a * HALF + b.
 pub const HALF: usize = 65536;
-
-// The most accounts.
-pub const ACCOUNTS: usize = 1024;
-
-// No group: the group of a link of strength 2, and the parent of a group that no other contains.
-pub const NO_GROUP: usize = 65535;
 
 // Above every support.
 pub const NO_SUPPORT: usize = 65536;
@@ -112,7 +115,7 @@ pub fn wipe_range(w: &mut [u32], m: usize, c: usize, from: usize, until: usize)
     requires { ⌜ c < COLUMNS ⌝ }
     requires { ⌜ from ≤ until ⌝ }
     requires { ⌜ until ≤ m ⌝ }
-    requires { ⌜ m ≤ mostLinks ⌝ }
+    requires { ⌜ m ≤ linkBound ⌝ }
     ensures { λ _. ⌜ Wiped m c from until (now (w .entry)) (now (w .exit)) ⌝ }
 {
     let mut e = from;
@@ -126,7 +129,7 @@ pub fn wipe_range(w: &mut [u32], m: usize, c: usize, from: usize, until: usize)
 pub fn wipe(w: &mut [u32], m: usize, c: usize)
     requires { ⌜ length (now w) ≡ COLUMNS * m ⌝ }
     requires { ⌜ c < COLUMNS ⌝ }
-    requires { ⌜ m ≤ mostLinks ⌝ }
+    requires { ⌜ m ≤ linkBound ⌝ }
     ensures { λ _. ⌜ Wiping m c m (now (w .entry)) (now (w .exit)) ⌝ }
 {
     wipe_range(w, m, c, 0, m);
@@ -137,7 +140,7 @@ pub fn wipe_all(w: &mut [u32], m: usize, from: usize, until: usize)
     requires { ⌜ length (now w) ≡ COLUMNS * m ⌝ }
     requires { ⌜ from ≤ until ⌝ }
     requires { ⌜ until ≤ COLUMNS ⌝ }
-    requires { ⌜ m ≤ mostLinks ⌝ }
+    requires { ⌜ m ≤ linkBound ⌝ }
     ensures { λ _. ⌜ Cleaned m from until (now (w .entry)) (now (w .exit)) ⌝ }
 {
     let mut c = from;
@@ -150,7 +153,7 @@ pub fn wipe_all(w: &mut [u32], m: usize, from: usize, until: usize)
 // The first n entries of an account-sized row at 0.
 pub fn zero(s: &mut [u32], n: usize)
     requires { ⌜ n ≤ length (now s) ⌝ }
-    requires { ⌜ n ≤ mostAccounts ⌝ }
+    requires { ⌜ n ≤ maxAccounts ⌝ }
     ensures { λ _. ⌜ Zeroed n (now (s .entry)) (now (s .exit)) ⌝ }
 {
     let mut a: usize = 0;
@@ -158,4 +161,29 @@ pub fn zero(s: &mut [u32], n: usize)
         s[a] = 0;
         a += 1;
     }
+}
+
+// All that is lent at 0.
+pub fn clear(s: &mut [u32])
+    ensures { λ _. ⌜ now (s .exit) ≡ zeros (length (now (s .entry))) ⌝ }
+{
+    let mut i: usize = 0;
+    while i < s.len() {
+        s[i] = 0;
+        i += 1;
+    }
+}
+
+// Room for a work space of the most links.
+pub fn room() -> [u32; WORK]
+    ensures { λ r. ⌜ r ≡ zeros (COLUMNS * maxLinks) ⌝ }
+{
+    [0u32; WORK]
+}
+
+// Room for an entry of each account, and one more.
+pub fn account_room() -> [u32; ROW]
+    ensures { λ r. ⌜ r ≡ zeros (maxAccounts + 1) ⌝ }
+{
+    [0u32; ROW]
 }

@@ -5,7 +5,7 @@ use mathlib.Core.List.{List}
 use Prim.Native.Nat.{ℕ, _+_, _*_, _≤_, _<_}
 use native.Mathlib.Omega.{arith}
 use lib.ListN.{length, getD}
-use Rattle.truss.specs.Limits.{noGroup}
+use Rattle.truss.specs.Limits.{maxAccounts, noGroup}
 use Rattle.truss.specs.Graph.{Graph}
 use Rattle.truss.specs.Strength.{strength}
 use Rattle.truss.specs.Forest.{Join, join, forest}
@@ -203,7 +203,7 @@ tree-all {G} {m} {n} {j} {c} {w} {w₁} {w₂} d D T = record {
 
 -- ---- the two parts put together
 
-pub tree-work : {G : Graph} {m n : ℕ} {w row mark : List ℕ} → Given G m n w → length row ≡ 1025 → length mark ≡ 1025 → WorkPre G m n w row mark
+pub tree-work : {G : Graph} {m n : ℕ} {w row mark : List ℕ} → Given G m n w → length row ≡ maxAccounts + 1 → length mark ≡ maxAccounts + 1 → WorkPre G m n w row mark
 tree-work d a b = record { given = d; long = omega (arith, a, d .small); wide = omega (arith, b, d .small) }
 
 pub tree-fits : {G : Graph} {o : InOrder G} {fits : size G ≤ noGroup} {m n j c : ℕ} {w : List ℕ} → TreeDone G o fits m n j c w → c ≤ m

@@ -7,13 +7,13 @@ ghost use Rattle.groups.specs.Level.{GroupAsks, GroupGives};
 use columns::GROUP_LEAST;
 use columns::GROUP_PARENT;
 use columns::GROUP_STRENGTH;
-use columns::NO_GROUP;
 use columns::OWN_GROUP;
 use columns::ROOT_GROUP;
 use columns::ROOT_STRENGTH;
 use columns::STRENGTH;
 use columns::get;
 use columns::put;
+use limits::NO_GROUP;
 use unions::roots::find;
 
 // Marks the root of link e, if its strength is k.

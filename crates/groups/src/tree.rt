@@ -16,12 +16,14 @@ use columns::OWN_GROUP;
 use columns::QUEUE;
 use columns::ROOT_GROUP;
 use columns::STRENGTH;
+use columns::account_room;
 use columns::wipe_all;
 use columns::wipe_range;
 use forest::level::level;
 use forest::level::prepare;
 use forest::level::top;
 use forest::rows::rows;
+use limits::LEAST_LEVEL;
 
 // How many joins and groups the columns hold.
 pub struct Sizes {
@@ -37,7 +39,7 @@ fn levels(w: &mut [u32], m: usize, n: usize, row: &[u32], mark: &mut [u32]) -> S
     let mut joins: usize = 0;
     let mut groups: usize = 0;
     let mut k = top(w, m);
-    while 3 <= k {
+    while LEAST_LEVEL <= k {
         joins = level(w, m, n, row, mark, k, joins);
         groups = group(w, m, k, groups);
         k = top(w, m);
@@ -87,19 +89,14 @@ fn tidy(w: &mut [u32], m: usize, joins: usize, groups: usize)
     wipe_all(w, m, ROOT_GROUP, COLUMNS);
 }
 
-// An entry for each account, and one more.
-fn room() -> [u32; 1025] {
-    [0u32; 1025]
-}
-
 // From columns KEY and STRENGTH: the forest in columns JOIN_ENDS and JOIN_WEIGHT, the groups in columns GROUP_STRENGTH to GROUP_LEAST, each
 // link's own group in column OWN_GROUP; all else is 0.
 pub fn tree(w: &mut [u32], m: usize, n: usize) -> Sizes
     requires { ⌜ TreeAsks m n (now w) ⌝ }
     ensures { λ r. ⌜ TreeGives m n (r .joins) (r .groups) (now (w .entry)) (now (w .exit)) ⌝ }
 {
-    let mut row = room();
-    let mut mark = room();
+    let mut row = account_room();
+    let mut mark = account_room();
     let s = work(w, m, n, &mut row, &mut mark);
     tidy(w, m, s.joins, s.groups);
     s

@@ -7,7 +7,7 @@ use mathlib.Core.List.{List·Memᴰ as In}
 use Prim.Native.Nat.{ℕ, zero, _+_, _*_, _-_, _≤_, _<_}
 use native.Mathlib.Omega.{arith}
 use lib.ListN.{length, set}
-use Rattle.truss.specs.Limits.{minLevel, noGroup}
+use Rattle.truss.specs.Limits.{minLevel, noGroup, maxAccounts, maxLinks}
 use Rattle.truss.specs.Record.{fieldAt}
 use Rattle.truss.specs.Graph.{Graph, linkAt}
 use Rattle.truss.specs.Question.{accountsIn, holdsAll}
@@ -137,7 +137,7 @@ pub record MarkGiven (b : List ℕ) (m count d : ℕ) (ranks : List ℕ) : Type 
 pub few-in : {b : List ℕ} {m count d : ℕ} {ranks : List ℕ} → MarkGiven b m count d ranks → count ≤ m
 few-in A = omega (arith, few (A .is-index), A .links, A .groups)
 
-pub few-all : {b : List ℕ} {m count d : ℕ} {ranks : List ℕ} → MarkGiven b m count d ranks → m ≤ 2048
+pub few-all : {b : List ℕ} {m count d : ℕ} {ranks : List ℕ} → MarkGiven b m count d ranks → m ≤ maxLinks
 few-all A = omega (arith, few-links (A .is-index), A .links)
 
 pub ends-below : {b : List ℕ} → IsIndex b → (i : ℕ) → i < size (graphIn b) → (linkAt (graphIn b) i .lo < graphIn b .n) × (linkAt (graphIn b) i .hi < graphIn b .n)
@@ -432,7 +432,7 @@ module _ {b : List ℕ} {n m at count k : ℕ} {named w : List ℕ} (A : HoldAsk
   abbrev GS : GroupsAt b at
   GS = A .shape .groups-at
 
-  pub hold-few : (count ≤ m) × (m ≤ 2048) × (n ≤ 1024)
+  pub hold-few : (count ≤ m) × (m ≤ maxLinks) × (n ≤ maxAccounts)
   hold-few = (
     omega (arith, few (GS .is-index), A .shape .links, A .shape .groups),
     omega (arith, few-links (GS .is-index), A .shape .links),

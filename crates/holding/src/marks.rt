@@ -2,13 +2,15 @@
 ghost use mathlib.Core.Path.{_≡_};
 ghost use Prim.Native.Nat.{_+_, _*_, _<_, _≤_};
 ghost use lib.ListN.{length};
+ghost use Rattle.truss.specs.Limits.{maxAccounts, maxLinks};
 ghost use Rattle.stored.specs.Rows.{Sized};
 ghost use Rattle.holding.specs.Turns.{Clear, HoldAsks, HoldGives, LiftAll, LiftGives, LiftOne, Marked, MarkGiven, MeetAll, MeetOne, Meets, OwnMarks};
 use crate::ranks::rank_named;
-use columns::NO_GROUP;
+use columns::account_room;
 use columns::get;
 use columns::put;
 use columns::wipe_range;
+use limits::NO_GROUP;
 use stored::rows::group_parent;
 use stored::rows::link_group;
 use stored::rows::link_higher;
@@ -19,7 +21,7 @@ fn clear(w: &mut [u32], m: usize, d: usize, count: usize)
     requires { ⌜ length (now w) ≡ 16 * m ⌝ }
     requires { ⌜ d ≤ 16 ⌝ }
     requires { ⌜ count ≤ m ⌝ }
-    requires { ⌜ m ≤ 2048 ⌝ }
+    requires { ⌜ m ≤ maxLinks ⌝ }
     ensures { λ _. ⌜ Clear m d count (now (w .exit)) ⌝ }
 {
     let mut c: usize = 0;
@@ -139,7 +141,7 @@ fn meet_column(w: &mut [u32], m: usize, count: usize, c: usize)
     requires { ⌜ 0 < c ⌝ }
     requires { ⌜ c < 16 ⌝ }
     requires { ⌜ count ≤ m ⌝ }
-    requires { ⌜ m ≤ 2048 ⌝ }
+    requires { ⌜ m ≤ maxLinks ⌝ }
     ensures { λ _. ⌜ Meets m c count (now (w .entry)) (now (w .exit)) ⌝ }
 {
     let mut g: usize = 0;
@@ -155,7 +157,7 @@ fn meet_all(w: &mut [u32], m: usize, count: usize, d: usize)
     requires { ⌜ 0 < d ⌝ }
     requires { ⌜ d ≤ 16 ⌝ }
     requires { ⌜ count ≤ m ⌝ }
-    requires { ⌜ m ≤ 2048 ⌝ }
+    requires { ⌜ m ≤ maxLinks ⌝ }
     ensures { λ _. ⌜ MeetAll m count d (now (w .entry)) (now (w .exit)) ⌝ }
 {
     let mut c: usize = 1;
@@ -178,7 +180,7 @@ fn hold_with(
     ranks: &mut [u32],
 )
     requires { ⌜ HoldAsks (now s) n m at count k (now named) (now w) ⌝ }
-    requires { ⌜ 1024 ≤ length (now ranks) ⌝ }
+    requires { ⌜ maxAccounts ≤ length (now ranks) ⌝ }
     ensures { λ _. ⌜ HoldGives (now (s .entry)) m count (now (named .entry)) (now (w .exit)) ⌝ }
 {
     let d = rank_named(ranks, n, named, k);
@@ -186,11 +188,6 @@ fn hold_with(
     mark_links(s, w, m, count, d, ranks);
     lift_all(s, at, w, m, count, d);
     meet_all(w, m, count, d);
-}
-
-// Room for the ranks of the most accounts.
-fn room() -> [u32; 1024] {
-    [0u32; 1024]
 }
 
 // Column 0 marks the groups that hold all k named accounts.
@@ -207,6 +204,6 @@ pub fn hold(
     requires { ⌜ HoldAsks (now s) n m at count k (now named) (now w) ⌝ }
     ensures { λ _. ⌜ HoldGives (now (s .entry)) m count (now (named .entry)) (now (w .exit)) ⌝ }
 {
-    let mut ranks = room();
+    let mut ranks = account_room();
     hold_with(s, n, m, at, count, named, k, w, &mut ranks);
 }

@@ -1,6 +1,7 @@
 // Ranks of the named accounts: 1, 2, .. by first naming, so that a repeat changes nothing; 0 for every other account.
 ghost use Prim.Native.Nat.{_+_, _*_, _<_, _≤_};
 ghost use lib.ListN.{length};
+ghost use Rattle.truss.specs.Limits.{maxAccounts};
 ghost use Rattle.columns.specs.Wiping.{Zeros};
 ghost use Rattle.holding.specs.Turns.{Names, RankedOne, RankState};
 use columns::zero;
@@ -9,7 +10,7 @@ use wire::field_at;
 // Account v is named when d ranks are given; gives the ranks given then.
 fn rank_one(ranks: &mut [u32], v: usize, d: usize) -> usize
     requires { ⌜ v < length (now ranks) ⌝ }
-    requires { ⌜ v < 1024 ⌝ }
+    requires { ⌜ v < maxAccounts ⌝ }
     requires { ⌜ d < 16 ⌝ }
     ensures { λ r. ⌜ RankedOne v d r (now (ranks .entry)) (now (ranks .exit)) ⌝ }
 {
@@ -24,7 +25,7 @@ fn rank_one(ranks: &mut [u32], v: usize, d: usize) -> usize
 fn rank_all(ranks: &mut [u32], n: usize, named: &[u8], k: usize) -> usize
     requires { ⌜ Zeros n (now ranks) ⌝ }
     requires { ⌜ n ≤ length (now ranks) ⌝ }
-    requires { ⌜ n ≤ 1024 ⌝ }
+    requires { ⌜ n ≤ maxAccounts ⌝ }
     requires { ⌜ Names n k (now named) ⌝ }
     ensures { λ r. ⌜ RankState n k r (now (named .entry)) (now (ranks .exit)) ⌝ }
 {
@@ -41,7 +42,7 @@ fn rank_all(ranks: &mut [u32], n: usize, named: &[u8], k: usize) -> usize
 // The same, whatever the memory held.
 pub fn rank_named(ranks: &mut [u32], n: usize, named: &[u8], k: usize) -> usize
     requires { ⌜ n ≤ length (now ranks) ⌝ }
-    requires { ⌜ n ≤ 1024 ⌝ }
+    requires { ⌜ n ≤ maxAccounts ⌝ }
     requires { ⌜ Names n k (now named) ⌝ }
     ensures { λ r. ⌜ RankState n k r (now (named .entry)) (now (ranks .exit)) ⌝ }
 {

@@ -7,6 +7,7 @@ use Prim.Native.Nat.{ℕ, _+_, _*_, _≤_, _<_}
 use native.Mathlib.Omega.{arith}
 use lib.ListN.{length, drop}
 use borrow.Author.Tests.{lt-ltb, le-ltb, eq-eqb, ne-eqb}
+use Rattle.truss.specs.Limits.{maxLinks}
 use Rattle.truss.specs.Graph.{Pair, graphOf}
 use Rattle.truss.specs.Refusal.{Refusal, Checked, passed, refused, refuse, andThen, mapPassed}
 use Rattle.truss.specs.LinksFile.{Links, accepted, readHead, readPairs, readLinks}
@@ -125,5 +126,5 @@ module _ (b out : List ℕ) where
     solve-asks {ps} h N = record { accepted = read-named b n ps (links-are ∙ h); named = N }
 
 -- a head that passes names few links
-pub few-of : (b : List ℕ) (n m : ℕ) → readHead b ≡ passed (record { n = n; m = m }) → m ≤ 2048
+pub few-of : (b : List ℕ) (n m : ℕ) → readHead b ≡ passed (record { n = n; m = m }) → m ≤ maxLinks
 few-of b n m h = head-good b (record { n = n; m = m }) h .links

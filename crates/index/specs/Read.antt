@@ -9,6 +9,7 @@ use native.Mathlib.Omega.{arith}
 use lib.ListN.{length, getD, length-map, drop, length-append}
 use lib.Seq.{ext-getD}
 use borrow.Author.Tests.{lt-ltb, le-ltb}
+use Rattle.truss.specs.Limits.{maxAccounts}
 use Rattle.truss.specs.Lists.{range}
 use Rattle.truss.specs.Graph.{Pair, Graph, link, linkOf, graphOf}
 use Rattle.truss.specs.Refusal.{Checked, passed, refused, refuse, andThen, mapPassed}
@@ -227,7 +228,7 @@ pub next-is : {b : List ℕ} {n at last r : ℕ} → NextKey b n at last r → r
 next-is (found l F) q = F
 next-is (none-follows z un) q = absurd (q z)
 
-pub follows-small : {b : List ℕ} {n at last r : ℕ} → n ≤ 1024 → Follows b n at last r → r < 67108864
+pub follows-small : {b : List ℕ} {n at last r : ℕ} → n ≤ maxAccounts → Follows b n at last r → r < 67108864
 follows-small l F = omega (arith, l, F .is-key, F .ordered, F .below)
 
 pub record KeysSoFar (b : List ℕ) (n m i last : ℕ) (w : List ℕ) : Type 0 where

@@ -139,5 +139,5 @@ fault-number b n at number q = go (not (whole b at kindPlainLink)) (leb n (field
     go false false true h = number-is 5 (omega arith) h
     go false false false h = let z : _≡_ {A = ℕ} 0 1 = cc in absurd (omega arith)
 
-pub key-small : (b : List ℕ) (n i k : ℕ) → n ≤ 1024 → passed k ≡ recordAt b n (5 + 5 * i) → k < 4294967296
+pub key-small : (b : List ℕ) (n i k : ℕ) → n ≤ maxAccounts → passed k ≡ recordAt b n (5 + 5 * i) → k < 4294967296
 key-small b n i k l q = let s = sound b n i k (sym q) in omega (arith, s .key-is, s .first-below, s .second-below)

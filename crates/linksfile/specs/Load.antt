@@ -9,6 +9,7 @@ use native.Mathlib.Omega.{arith}
 use lib.Dec.{eqb}
 use lib.ListN.{length}
 use borrow.Author.Tests.{eq-eqb, ne-eqb}
+use Rattle.truss.specs.Limits.{maxAccounts, maxLinks}
 use Rattle.truss.specs.Graph.{Pair, linkOf, graphOf}
 use Rattle.truss.specs.Refusal.{Checked, passed, refused, refuse}
 use Rattle.truss.specs.LinksFile.{Links, accepted, readHead, readPairs}
@@ -51,7 +52,7 @@ pub record Scanned (b : List ℕ) (n m count number place : ℕ) (w : List ℕ) 
 pub record ScanAsks (m n : ℕ) (w : List ℕ) : Type 0 where
   pub size : length w ≡ 16 * m
   pub few : m ≤ 65535
-  pub small : n ≤ 1024
+  pub small : n ≤ maxAccounts
 
 -- what the head's checks let pass
 pub record LoadAsks (b : List ℕ) (n m : ℕ) (w : List ℕ) : Type 0 where
@@ -68,11 +69,11 @@ module _ {b : List ℕ} {n m count number place : ℕ} {w₀ w₁ : List ℕ} (P
   H : GoodHead b (record { n = n; m = m })
   H = head-good b (record { n = n; m = m }) (P .head)
 
-  pub load-few : m ≤ 2048
+  pub load-few : m ≤ maxLinks
   unfolding H
   load-few = H .links
 
-  accounts-few : n ≤ 1024
+  accounts-few : n ≤ maxAccounts
   unfolding H
   accounts-few = H .accounts
 

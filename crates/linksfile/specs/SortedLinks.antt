@@ -6,6 +6,7 @@ use mathlib.Core.List.{List·Memᴰ as In}
 use Prim.Native.Nat.{ℕ, zero, suc, _+_, _*_, _/_, _%_, _≤_, _<_}
 use native.Mathlib.Omega.{arith}
 use lib.ListN.{length, getD, length-map}
+use Rattle.truss.specs.Limits.{maxAccounts}
 use Rattle.truss.specs.Lists.{range, sort}
 use Rattle.truss.specs.Graph.{Link, Pair, link, linkOf, linksOf, linkAt, linkBefore, graphOf}
 use Rattle.laws.proofs.Members.{Sorted, map-in, in-map, sort-in, in-sort, sort-sorted, range-in, in-range, range-length}
@@ -24,7 +25,7 @@ linkOfKey k = record { lo = k / 65536; hi = k % 65536 }
 pub record Row (n m : ℕ) (ps : List Pair) (f : ℕ → ℕ) : Type 0 where
   pub count : length ps ≡ m
   pub good : GoodPairs n ps
-  pub small : n ≤ 1024
+  pub small : n ≤ maxAccounts
   pub rises : (i j : ℕ) → i < j → j < m → f i < f j
   pub only : (i : ℕ) → i < m → (p : Pair) × In p ps × (f i ≡ keyOf (linkOf p))
   pub each : (p : Pair) → In p ps → (i : ℕ) × (i < m) × (f i ≡ keyOf (linkOf p))

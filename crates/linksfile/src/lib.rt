@@ -8,6 +8,8 @@ ghost use Rattle.linksfile.specs.Load.{Ended, ScanAsks, Scanned, LoadAsk
 ghost use Rattle.linksfile.specs.Answers.{headOf, plainOf};
 use columns::HALF;
 use columns::put;
+use limits::MOST_ACCOUNTS;
+use limits::MOST_LINKS;
 use sorting::FILE;
 use sorting::sort;
 use wire::END;
@@ -15,10 +17,6 @@ use wire::HEAD;
 use wire::PLAIN_LINK;
 use wire::field_at;
 use wire::whole_record;
-
-pub const MOST_ACCOUNTS: usize = 1024;
-
-pub const MOST_LINKS: usize = 2048;
 
 // The head's answer: accounts and links, or the number of a refusal at place 0.
 pub enum FileHead {

@@ -9,7 +9,7 @@ use native.Mathlib.Omega.{arith}
 use lib.ListN.{length, drop, length-map}
 use lib.Seq.{ext-getD}
 use borrow.Author.Tests.{lt-ltb, le-ltb}
-use Rattle.truss.specs.Limits.{noGroup}
+use Rattle.truss.specs.Limits.{noGroup, maxAccounts, maxLinks}
 use Rattle.truss.specs.Lists.{concatMap, range}
 use Rattle.truss.specs.Lists.{count as howMany}
 use Rattle.truss.specs.Graph.{Graph, linkAt, link}
@@ -63,7 +63,7 @@ keys-more {b} {m} {i} {x} {y} {w} {w′} l K p q u = rw u (record { size-is = le
     go j h (inr n) = U .else j (omega arith) n ∙ K .keys j (omega arith)
 
 -- two accounts share a number of 32 bits
-pub key-small : {b : List ℕ} → IsIndex b → (i : ℕ) → i < size (graphIn b) → (linkAt (graphIn b) i .lo < 1024) × (linkAt (graphIn b) i .hi < 1024)
+pub key-small : {b : List ℕ} → IsIndex b → (i : ℕ) → i < size (graphIn b) → (linkAt (graphIn b) i .lo < maxAccounts) × (linkAt (graphIn b) i .hi < maxAccounts)
 key-small {b} I i l =
     let m = in-member (graphIn b .links) (getD-in (link 0 0) (graphIn b .links) i l) in
     let lo = proper I .ordered (linkAt (graphIn b) i) m in
@@ -76,7 +76,7 @@ pub record CountGiven (b : List ℕ) (n m at count : ℕ) (w : List ℕ) : Type 
   pub shape : Shape b n m at count
   pub size-is : length w ≡ 16 * m
 
-pub count-few : {b : List ℕ} {n m at count : ℕ} {w : List ℕ} → CountGiven b n m at count w → (count ≤ m) × (m ≤ 2048) × (n ≤ 1024)
+pub count-few : {b : List ℕ} {n m at count : ℕ} {w : List ℕ} → CountGiven b n m at count w → (count ≤ m) × (m ≤ maxLinks) × (n ≤ maxAccounts)
 count-few A = (
   omega (arith, few (A .shape .groups-at .is-index), A .shape .links, A .shape .groups),
   omega (arith, few-links (A .shape .groups-at .is-index), A .shape .links),
@@ -113,7 +113,7 @@ rounds-small {m} {count} {c} {i} {p} l R h k = omega (arith, R .counts h k, how-
 
 pub record RoundAsks (b : List ℕ) (at m count v from until : ℕ) (w : List ℕ) : Type 0 where
   pub given : UpGiven b at m count 4
-  pub few-v : v < 1024
+  pub few-v : v < maxAccounts
   pub rounds : Rounds m count 4 v (holdsOf (graphIn b)) w
   pub entries : (j : ℕ) → from ≤ j → j < until → (j < 2 * m) × (named w m j < m)
   pub range : from ≤ until
@@ -156,7 +156,7 @@ module _ {b : List ℕ} {at m n count v : ℕ} {w₀ w start : List ℕ} (A : Ac
   lv : v < graphIn b .n
   lv = omega (arith, l, A .accounts)
 
-  pub account-few : n ≤ 1024
+  pub account-few : n ≤ maxAccounts
   account-few = omega (arith, few-accounts (A .given .sized .groups-at .is-index), A .accounts)
 
   pub start-room : (v + 1 < length start) × (startAt start v ≤ 2 * m) × (startAt start (v + 1) ≤ 2 * m)
@@ -243,7 +243,7 @@ pub record RowsAsks (b : List ℕ) (at m count : ℕ) (w : List ℕ) : Type 0 wh
   pub sized : Sized b at m count
   pub counted : Counted b m count w
 
-pub rows-few : {b : List ℕ} {at m count : ℕ} {w : List ℕ} → RowsAsks b at m count w → count ≤ 2048
+pub rows-few : {b : List ℕ} {at m count : ℕ} {w : List ℕ} → RowsAsks b at m count w → count ≤ maxLinks
 rows-few A = omega (arith, sized-few (A .sized) .0, sized-few (A .sized) .1)
 
 pub record RowAsks (b : List ℕ) (at m count g : ℕ) (w : List ℕ) : Type 0 where
@@ -350,7 +350,7 @@ module _ (b out : List ℕ) where
     pub opened-rows : {w : List ℕ} → Counted b m count w → RowsAsks b (5 + 8 * m + 6 * joins) m count w
     opened-rows C = record { sized = shape-sized (opened-shape O); counted = C }
 
-    pub opened-few : (5 + 8 * m + 6 * joins ≤ 40960) × (count ≤ 2048)
+    pub opened-few : (5 + 8 * m + 6 * joins ≤ 40960) × (count ≤ maxLinks)
     opened-few =
         let J = opened-index O in
         let S = opened-shape O in

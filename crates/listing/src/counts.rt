@@ -12,12 +12,13 @@ ghost use Rattle.listing.specs.Rows.{AccountsAsks, AccountsGive, Counted
 use adjacency::lists::lists;
 use columns::HALF;
 use columns::KEY;
-use columns::NO_GROUP;
+use columns::account_room;
 use columns::get;
 use columns::near;
 use columns::put;
 use columns::wipe;
 use columns::wipe_all;
+use limits::NO_GROUP;
 use stored::rows::group_parent;
 use stored::rows::link_group;
 use stored::rows::link_higher;
@@ -195,17 +196,12 @@ fn count_with(
     count_accounts(s, at, w, m, n, count, start);
 }
 
-// Room for the accounts.
-fn room() -> [u32; 1025] {
-    [0u32; 1025]
-}
-
 // Links and accounts of each group in columns 5 and 4.
 pub fn count_all(s: &[u8], at: usize, w: &mut [u32], m: usize, n: usize, count: usize)
     requires { ⌜ CountGiven (now s) n m at count (now w) ⌝ }
     ensures { λ _. ⌜ Counted (now (s .entry)) m count (now (w .exit)) ⌝ }
 {
-    let mut start = room();
-    let mut next = room();
+    let mut start = account_room();
+    let mut next = account_room();
     count_with(s, at, w, m, n, count, &mut start[..n + 1], &mut next[..n]);
 }

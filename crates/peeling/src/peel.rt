@@ -2,17 +2,19 @@
 ghost use mathlib.Core.Path.{_≡_};
 ghost use Prim.Native.Nat.{_+_, _*_, _<_, _≤_};
 ghost use lib.ListN.{length};
+ghost use Rattle.truss.specs.Limits.{maxAccounts};
 ghost use Rattle.peeling.specs.Bare.{Bared, Bare};
 ghost use Rattle.peeling.specs.Drain.{Pending, Finished, DrainAsks, DrainGives};
 ghost use Rattle.peeling.specs.Seed.{Least, LeastStep};
 ghost use Rattle.peeling.specs.Peel.{LevelAsks, LevelGives, LevelsAsk, LevelsGive, Ended, PeelAsks, PeelInAsks, PeelClears};
-ghost use Rattle.columns.specs.Columns.{COLUMNS, mostLinks, mostAccounts};
+ghost use Rattle.columns.specs.Columns.{COLUMNS, linkBound};
 use crate::seed::seed;
 use columns::NEAR;
 use columns::NO_SUPPORT;
 use columns::QUEUE;
 use columns::STRENGTH;
 use columns::SUPPORT;
+use columns::account_room;
 use columns::get;
 use columns::put;
 use columns::wipe;
@@ -65,7 +67,7 @@ fn pending(m: usize, tail: usize) -> usize
 // The supports are wiped if every link is in the queue.
 fn finish(w: &mut [u32], m: usize, tail: usize)
     requires { ⌜ length (now w) ≡ COLUMNS * m ⌝ }
-    requires { ⌜ m ≤ mostLinks ⌝ }
+    requires { ⌜ m ≤ linkBound ⌝ }
     ensures { λ _. ⌜ Finished m tail (now (w .entry)) (now (w .exit)) ⌝ }
 {
     if m <= tail {
@@ -126,7 +128,7 @@ fn bare_one(w: &mut [u32], m: usize, e: usize, tail: usize) -> usize
     requires { ⌜ length (now w) ≡ COLUMNS * m ⌝ }
     requires { ⌜ e < m ⌝ }
     requires { ⌜ tail < m ⌝ }
-    requires { ⌜ m ≤ mostLinks ⌝ }
+    requires { ⌜ m ≤ linkBound ⌝ }
     ensures { λ r. ⌜ Bared m e tail r (now (w .entry)) (now (w .exit)) ⌝ }
 {
     if get(w, m, SUPPORT, e) == 0 {
@@ -139,7 +141,7 @@ fn bare_one(w: &mut [u32], m: usize, e: usize, tail: usize) -> usize
 // The strength of the links in no triangle; there is no level for them. Gives how many there are.
 fn bare(w: &mut [u32], m: usize) -> usize
     requires { ⌜ length (now w) ≡ COLUMNS * m ⌝ }
-    requires { ⌜ m ≤ mostLinks ⌝ }
+    requires { ⌜ m ≤ linkBound ⌝ }
     ensures { λ r. ⌜ Bare m m r (now (w .entry)) (now (w .exit)) ⌝ }
 {
     let mut tail: usize = 0;
@@ -176,7 +178,7 @@ fn peel_levels(
 fn ends(start: &[u32], stop: &mut [u32], n: usize)
     requires { ⌜ length (now start) ≡ n + 1 ⌝ }
     requires { ⌜ length (now stop) ≡ n ⌝ }
-    requires { ⌜ n ≤ mostAccounts ⌝ }
+    requires { ⌜ n ≤ maxAccounts ⌝ }
     ensures { λ _. ⌜ Ended n (now (start .entry)) (now (stop .entry)) (now (stop .exit)) ⌝ }
 {
     let mut a: usize = 0;
@@ -199,16 +201,11 @@ fn peel_in(w: &mut [u32], m: usize, n: usize, start: &[u32], stop: &mut [u32], m
     zero(mark, n);
 }
 
-// Room for the accounts.
-fn room() -> [u32; 1024] {
-    [0u32; 1024]
-}
-
 // Column STRENGTH from column SUPPORT. The other columns from NEAR to QUEUE and the marks are then 0; all else stays.
 pub fn peel(w: &mut [u32], m: usize, n: usize, start: &[u32], mark: &mut [u32])
     requires { ⌜ PeelAsks m n (now w) (now start) (now mark) ⌝ }
     ensures { λ _. ⌜ PeelClears m n (now (w .entry)) (now (w .exit)) (now (start .entry)) (now (mark .entry)) (now (mark .exit)) ⌝ }
 {
-    let mut stop = room();
+    let mut stop = account_room();
     peel_in(w, m, n, start, &mut stop[..n], mark);
 }

@@ -10,7 +10,7 @@ use native.Mathlib.Omega.{arith}
 use lib.Dec.{eqb, leb}
 use lib.ListN.{length}
 use borrow.Author.Tests.{le-leb, lt-leb, leb-true, lt-ltb, le-ltb, eq-eqb}
-use Rattle.truss.specs.Limits.{minLevel, noGroup}
+use Rattle.truss.specs.Limits.{minLevel, noGroup, maxAccounts, maxLinks}
 use Rattle.truss.specs.Lists.{any, filter, range, position, largest}
 use Rattle.truss.specs.Graph.{Graph, Link, link, sameLink, linkAt, linkNumber, member}
 use Rattle.truss.specs.Strength.{strength, strengthBound}
@@ -356,7 +356,7 @@ pub record MembersAsks (b : List ℕ) (at count m k e g : ℕ) (w : List ℕ) : 
 pub shape-groups : {b : List ℕ} {n m at count : ℕ} → Shape b n m at count → GroupsGiven b at count
 shape-groups S = record { groups-at = S .groups-at; groups-are = S .groups }
 
-pub shape-few : {b : List ℕ} {n m at count : ℕ} → Shape b n m at count → (count ≤ m) × (m ≤ 2048) × (n ≤ 1024)
+pub shape-few : {b : List ℕ} {n m at count : ℕ} → Shape b n m at count → (count ≤ m) × (m ≤ maxLinks) × (n ≤ maxAccounts)
 shape-few S = (
   omega (arith, few (S .groups-at .is-index), S .links, S .groups),
   omega (arith, few-links (S .groups-at .is-index), S .links),

@@ -10,6 +10,7 @@ use native.Mathlib.Omega.{arith}
 use lib.Dec.{eqb}
 use lib.ListN.{length, drop, length-append}
 use borrow.Author.Tests.{eq-eqb, ne-eqb, eqb-true, eqb-false, lt-ltb, le-ltb}
+use Rattle.truss.specs.Limits.{maxLinks}
 use Rattle.truss.specs.Lists.{filter, range, concatMap}
 use Rattle.truss.specs.Record.{field}
 use Rattle.truss.specs.Question.{numbers}
@@ -145,7 +146,7 @@ marked-are w m size p M = filter-same (marksIt w m) p (range 0 size) (λ i k. at
 pub record ColumnGiven (m size : ℕ) (w : List ℕ) : Type 0 where
   pub size-is : length w ≡ 16 * m
   pub part : size ≤ m
-  pub few : m ≤ 2048
+  pub few : m ≤ maxLinks
 
 pub counted-more : (w : List ℕ) (m i : ℕ) {c x r : ℕ} → c ≡ length (marked w m i) → x ≡ cell w m 0 i → r ≡ cond (eqb x 0) 0 1 → c + r ≡ length (marked w m (i + 1))
 counted-more w m i {c} {x} {r} q e u = go (same-or-not x 0)

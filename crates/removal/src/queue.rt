@@ -2,7 +2,7 @@
 ghost use mathlib.Core.Path.{_≡_};
 ghost use Prim.Native.Nat.{_+_, _*_, _<_, _≤_};
 ghost use lib.ListN.{length};
-ghost use Rattle.columns.specs.Columns.{store, STRENGTH, QUEUE, COLUMNS, mostLinks, noSupport};
+ghost use Rattle.columns.specs.Columns.{store, STRENGTH, QUEUE, COLUMNS, linkBound, noSupport};
 use columns::QUEUE;
 use columns::STRENGTH;
 use columns::put;
@@ -12,7 +12,7 @@ pub fn push(w: &mut [u32], m: usize, x: usize, s: usize, tail: usize) -> usize
     requires { ⌜ length (now w) ≡ COLUMNS * m ⌝ }
     requires { ⌜ x < m ⌝ }
     requires { ⌜ tail < m ⌝ }
-    requires { ⌜ m ≤ mostLinks ⌝ }
+    requires { ⌜ m ≤ linkBound ⌝ }
     requires { ⌜ s < noSupport ⌝ }
     ensures { λ r. ⌜ (r ≡ tail + 1) × (now (w .exit) ≡ store (store (now (w .entry)) m STRENGTH x (s + 2)) m QUEUE tail x) ⌝ }
 {

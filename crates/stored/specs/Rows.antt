@@ -8,7 +8,7 @@ use native.Mathlib.Omega.{arith}
 use lib.Dec.{leb, ltb}
 use lib.ListN.{length, getD, length-map}
 use borrow.Author.Tests.{leb-true, leb-false, ltb-true}
-use Rattle.truss.specs.Limits.{minLevel, noGroup}
+use Rattle.truss.specs.Limits.{minLevel, noGroup, maxAccounts, maxLinks}
 use Rattle.truss.specs.Lists.{position, range}
 use Rattle.truss.specs.Graph.{Graph, graphOf, linkAt}
 use Rattle.truss.specs.Strength.{strength}
@@ -87,10 +87,10 @@ module _ {b : List ℕ} (I : IsIndex b) where
   pub proper : Proper G
   proper = graph-proper (fieldAt b 1) (pairsIn b (fieldAt b 3)) (I .accepted .good)
 
-  pub few-links : size G ≤ 2048
+  pub few-links : size G ≤ maxLinks
   few-links = omega (arith, graph-size (fieldAt b 1) (pairsIn b (fieldAt b 3)), I .accepted .links)
 
-  pub few-accounts : G .n ≤ 1024
+  pub few-accounts : G .n ≤ maxAccounts
   unfolding graphOf
   few-accounts = I .accepted .accounts
 
@@ -245,5 +245,5 @@ module _ {b : List ℕ} {n m joins count : ℕ} (O : Opened b n m joins count) w
         groups = sym (k ∙ group-rows-length (graphIn b) (proper I) (fits-groups I));
       }
 
-pub sized-few : {b : List ℕ} {at m count : ℕ} → Sized b at m count → (count ≤ m) × (m ≤ 2048)
+pub sized-few : {b : List ℕ} {at m count : ℕ} → Sized b at m count → (count ≤ m) × (m ≤ maxLinks)
 sized-few A = (omega (arith, few (A .groups-at .is-index), A .links, A .groups), omega (arith, few-links (A .groups-at .is-index), A .links))

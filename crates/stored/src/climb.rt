@@ -11,7 +11,7 @@ use crate::rows::group_parent;
 use crate::rows::group_strength;
 use crate::rows::link_group;
 use crate::rows::link_strength;
-use columns::NO_GROUP;
+use limits::NO_GROUP;
 
 // From group g, whose strength is at least k, up to the group at k. Numbers rise at each step.
 pub fn climb(s: &[u8], at: usize, count: usize, k: usize, g: usize) -> usize

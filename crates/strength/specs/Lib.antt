@@ -1,3 +1,2 @@
--- The strength type, and what `strengths` says.
-pub mod Range
+-- What `strengths` says.
 pub mod Whole

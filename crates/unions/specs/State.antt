@@ -9,6 +9,7 @@ use Prim.Native.Nat.{ℕ, zero, suc, _+_, _*_, _≤_, _<_, _/_, _%_, min, max}
 use native.Mathlib.Numerals.{add-one}
 use native.Mathlib.Omega.{arith}
 use lib.ListN.{length, getD, set, length-map}
+use Rattle.truss.specs.Limits.{maxAccounts}
 use Rattle.truss.specs.Lists.{range}
 use Rattle.truss.specs.Graph.{Graph, linkAt}
 use Rattle.truss.specs.Forest.{Join, allJoins, merge}
@@ -33,7 +34,7 @@ pub record Given (G : Graph) (m n : ℕ) (w : List ℕ) : Type 0 where
   pub accounts : G .n ≡ n
   pub count : size G ≡ m
   pub few : m ≤ 65535
-  pub small : n ≤ 1024
+  pub small : n ≤ maxAccounts
   pub size-is : length w ≡ 16 * m
   pub key : (i : ℕ) → i < m → cell w m 0 i ≡ linkAt G i .lo * 65536 + linkAt G i .hi
   pub strengths : (i : ℕ) → i < m → cell w m 4 i ≡ strengthAt G i

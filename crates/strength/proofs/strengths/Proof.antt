@@ -10,11 +10,11 @@ use Rattle.strength.proofs.strengths.Tie as tie
 returns : tie.Need-returns
 returns c = λ G N. strengths-none N (c .if1 .taken)
 
-room-requires : tie.Need-room-requires
-room-requires c κs = search needs
+account-room-requires : tie.Need-account-room-requires
+account-room-requires c κs = search needs
 
-room-requires-2 : tie.Need-room-requires-2
-room-requires-2 c κs = search needs
+account-room-requires-2 : tie.Need-account-room-requires-2
+account-room-requires-2 c κs = search needs
 
 add-start : tie.Need-add-start
 add-start c = search needs
@@ -53,8 +53,8 @@ strengths-spec =
     tie.close
     (tie.spec
     returns
-    room-requires
-    room-requires-2
+    account-room-requires
+    account-room-requires-2
     add-start
     array-borrow-prefix-start
     slice-aggregate-work

@@ -6,11 +6,11 @@ use borrow.Author.Needs.{needs}
 use Rattle.groups.proofs.tree.tree.Statement.{statement}
 use Rattle.groups.proofs.tree.tree.Tie as tie
 
-room-requires : tie.Need-room-requires
-room-requires c κs = search needs
+account-room-requires : tie.Need-account-room-requires
+account-room-requires c κs = search needs
 
-room-requires-2 : tie.Need-room-requires-2
-room-requires-2 c κs = search needs
+account-room-requires-2 : tie.Need-account-room-requires-2
+account-room-requires-2 c κs = search needs
 
 slice-aggregate-work : tie.Need-slice-aggregate-work
 slice-aggregate-work c = search needs
@@ -36,8 +36,8 @@ pub tree-spec : {M : Type 1} → statement M
 tree-spec =
     tie.close
     (tie.spec
-    room-requires
-    room-requires-2
+    account-room-requires
+    account-room-requires-2
     slice-aggregate-work
     slice-aggregate-work-2
     work-requires

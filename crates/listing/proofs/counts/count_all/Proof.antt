@@ -7,11 +7,11 @@ use borrow.Author.Needs.{needs}
 use Rattle.listing.proofs.counts.count_all.Statement.{statement}
 use Rattle.listing.proofs.counts.count_all.Tie as tie
 
-room-requires : tie.Need-room-requires
-room-requires c κs = search needs
+account-room-requires : tie.Need-account-room-requires
+account-room-requires c κs = search needs
 
-room-requires-2 : tie.Need-room-requires-2
-room-requires-2 c κs = search needs
+account-room-requires-2 : tie.Need-account-room-requires-2
+account-room-requires-2 c κs = search needs
 
 add-start : tie.Need-add-start
 add-start c = omega (arith, count-few (c .before .before .before .before .before .pre) .2)
@@ -41,8 +41,8 @@ pub count-all-spec : {M : Type 1} → statement M
 count-all-spec =
     tie.close
     (tie.spec
-    room-requires
-    room-requires-2
+    account-room-requires
+    account-room-requires-2
     add-start
     array-borrow-prefix-start
     slice-aggregate-count-with

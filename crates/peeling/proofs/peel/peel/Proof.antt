@@ -6,8 +6,8 @@ use borrow.Author.Needs.{needs}
 use Rattle.peeling.proofs.peel.peel.Statement.{statement}
 use Rattle.peeling.proofs.peel.peel.Tie as tie
 
-room-requires : tie.Need-room-requires
-room-requires c κs = search needs
+account-room-requires : tie.Need-account-room-requires
+account-room-requires c κs = search needs
 
 array-borrow-prefix-stop : tie.Need-array-borrow-prefix-stop
 array-borrow-prefix-stop c = search needs
@@ -31,7 +31,7 @@ pub peel-spec : {M : Type 1} → statement M
 peel-spec =
     tie.close
     (tie.spec
-    room-requires
+    account-room-requires
     array-borrow-prefix-stop
     slice-aggregate-peel-in
     peel-in-requires

@@ -3,8 +3,8 @@ use mathlib.Core.Bool.{cond, _&&_}
 use Prim.Native.Nat.{ℕ}
 use lib.Dec.{leb}
 use Rattle.truss.specs.Limits.{minStrength, maxStrength}
-use Rattle.strength.specs.declared.MaybeStrength.{MaybeStrength}
-use Rattle.strength.specs.declared.MaybeStrength.the-variants.{Known, OutOfRange}
+use Rattle.limits.specs.declared.MaybeStrength.{MaybeStrength}
+use Rattle.limits.specs.declared.MaybeStrength.the-variants.{Known, OutOfRange}
 
 unfoldable pub strengthOf : ℕ → MaybeStrength
 strengthOf x = cond (leb minStrength x && leb x maxStrength) (Known (record { 0 = x })) OutOfRange

@@ -1,8 +1,8 @@
--- `strength::Strength::of` meets its contract. Assumes nothing.
-use Rattle.strength.specs.Range.{strengthOf}
+-- `limits::Strength::of` meets its contract. Assumes nothing.
+use Rattle.limits.specs.Range.{strengthOf}
 use borrow.Author.Tests.{lt-leb, le-leb}
-use Rattle.strength.proofs.Strength.of.Statement.{statement}
-use Rattle.strength.proofs.Strength.of.Tie as tie
+use Rattle.limits.proofs.Strength.of.Statement.{statement}
+use Rattle.limits.proofs.Strength.of.Tie as tie
 
 returns : tie.Need-returns
 unfolding strengthOf

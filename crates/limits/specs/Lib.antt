@@ -1,0 +1,2 @@
+-- The strength type.
+pub mod Range

@@ -1,0 +1,101 @@
+// The figures of document 01 as the code has them, each named once. `named_once` promises that they are those of the definitions (truss: Limits), so a limit is
+// changed by its line there and its line here.
+ghost use mathlib.Core.Path.{_≡_};
+ghost use Rattle.truss.specs.Limits.{maxAccounts, maxLevel, maxLinks, maxNamed, maxStrength, maxTally, minLevel, minStrength, noGroup, tallyLength};
+ghost use Rattle.truss.specs.Question.{badLevel};
+ghost use Rattle.limits.specs.Range.{strengthOf};
+
+pub const MOST_ACCOUNTS: usize = 1024;
+
+pub const MOST_LINKS: usize = 2048;
+
+// The most accounts that a question names.
+pub const MOST_NAMED: usize = 16;
+
+// No group: the group of a link of strength 2, and the parent of a group that no other contains.
+pub const NO_GROUP: usize = 65535;
+
+// Where a tally rests, and its bytes in a desk record.
+pub const MOST_TALLY: u32 = 4294967295;
+
+pub const TALLY_BYTES: usize = 4;
+
+// A strength: a number from MIN to MAX. Only `of` makes one.
+pub struct Strength(usize);
+
+// What a number is as a strength.
+pub enum MaybeStrength {
+    Known(Strength),
+    OutOfRange,
+}
+
+impl Strength {
+    pub const MIN: Strength = Strength(2);
+
+    pub const MAX: Strength = Strength(64);
+
+    // The strength of that number, if it is one.
+    pub fn of(x: usize) -> MaybeStrength
+        ensures { λ r. ⌜ r ≡ strengthOf x ⌝ }
+    {
+        if x < Strength::MIN.0 {
+            return MaybeStrength::OutOfRange;
+        }
+        if Strength::MAX.0 < x {
+            return MaybeStrength::OutOfRange;
+        }
+        MaybeStrength::Known(Strength(x))
+    }
+
+    pub fn number(self) -> usize
+        ensures { λ r. ⌜ r ≡ self .0 ⌝ }
+    {
+        self.0
+    }
+}
+
+// The least level at which links are joined; the greatest is the greatest strength.
+pub const LEAST_LEVEL: usize = Strength::MIN.0 + 1;
+
+// Refusal 10: no level.
+pub fn bad_level(k: usize) -> bool
+    ensures { λ r. ⌜ r ≡ badLevel k ⌝ }
+{
+    if k < LEAST_LEVEL {
+        return true;
+    }
+    Strength::MAX.0 < k
+}
+
+// The figures as one value: of the definitions' limits those of accounts, links, named accounts, no group, a tally (its rest, its bytes), strengths and levels.
+pub struct Figures {
+    pub accounts: usize,
+    pub links: usize,
+    pub named: usize,
+    pub none: usize,
+    pub rest: u32,
+    pub bytes: usize,
+    pub weakest: usize,
+    pub strongest: usize,
+    pub lowest: usize,
+    pub highest: usize,
+}
+
+pub fn named_once() -> Figures
+    ensures { λ r. ⌜ (r .accounts ≡ maxAccounts) × (r .links ≡ maxLinks) × (r .named ≡ maxNamed) × (r .none ≡ noGroup) ⌝ }
+    ensures { λ r. ⌜ (r .rest ≡ maxTally) × (r .bytes ≡ tallyLength) ⌝ }
+    ensures { λ r. ⌜ (r .weakest ≡ minStrength) × (r .strongest ≡ maxStrength) × (r .lowest ≡ minLevel) × (r .highest ≡ maxLevel) ⌝ }
+{
+    Figures {
+        accounts: MOST_ACCOUNTS,
+        links: MOST_LINKS,
+        named: MOST_NAMED,
+        none: NO_GROUP,
+        rest: MOST_TALLY,
+        bytes: TALLY_BYTES,
+        weakest: Strength::MIN.0,
+        strongest: Strength::MAX.0,
+        lowest: LEAST_LEVEL,
+        highest: Strength::MAX.0,
+    }
+}
