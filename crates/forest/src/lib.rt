@@ -1,4 +1,5 @@
 // The forest: all joins of one weight, link by link.
 pub mod level;
+mod marks;
 pub mod rows;
-pub mod visit;
+mod visit;
