@@ -28,16 +28,16 @@ level-requires : tie.Need-level-requires Inv-loop μ-loop
 level-requires c κs = (c .before .before .before .before .before .before .before .before .before .pre .0, tree-level (c .before .before .before .loop .inv .2 (c .before .before .before .before .before .before .before .before .before .pre .0) (c .before .before .before .before .before .before .before .before .before .pre .1) (c .before .before .before .before .before .before .before .before .before .pre .2) (c .before .before .before .before .before .before .before .before .before .pre .3)) (c .before .before .loop-test .taken) (c .before .before .before .before .before .before .before .before .before .pre .3 .rows) (omega (arith, c .before .before .before .loop .inv .1, c .before .before .before .before .before .before .before .before .before .pre .3 .wide)))
 
 group-requires : tie.Need-group-requires Inv-loop μ-loop
-group-requires c κs = (c .before .before .before .before .before .before .before .before .before .before .before .before .before .before .before .pre .0, c .before .before .before .before .before .before .before .before .before .before .before .before .before .before .before .args .n, c .before .before .before .before .before .before .before .before .before .before .before .before .before .before .before .pre .1, c .before .before .before .before .before .before .before .before .before .before .before .before .before .before .before .pre .2, tree-group (c .before .before .before .before .before .before .before .before .before .loop .inv .2 (c .before .before .before .before .before .before .before .before .before .before .before .before .before .before .before .pre .0) (c .before .before .before .before .before .before .before .before .before .before .before .before .before .before .before .pre .1) (c .before .before .before .before .before .before .before .before .before .before .before .before .before .before .before .pre .2) (c .before .before .before .before .before .before .before .before .before .before .before .before .before .before .before .pre .3)) (c .before .before .before .before .before .before .before .before .loop-test .taken) (c .before .before .before .before .before .before .before .before .before .before .before .before .before .before .before .pre .3 .rows) (omega (arith, c .before .before .before .before .before .before .before .before .before .loop .inv .1, c .before .before .before .before .before .before .before .before .before .before .before .before .before .before .before .pre .3 .wide)) (c .before .before .before .before .before .level .ensures))
+group-requires c κs = (c .before .before .before .before .before .before .before .before .before .before .before .before .before .before .before .pre .0, c .before .before .before .before .before .before .before .before .before .before .before .before .before .before .before .args .n, c .before .before .before .before .before .before .before .before .before .before .before .before .before .before .before .pre .1, c .before .before .before .before .before .before .before .before .before .before .before .before .before .before .before .pre .2, tree-group (c .before .before .before .before .before .before .before .before .before .loop .inv .2 (c .before .before .before .before .before .before .before .before .before .before .before .before .before .before .before .pre .0) (c .before .before .before .before .before .before .before .before .before .before .before .before .before .before .before .pre .1) (c .before .before .before .before .before .before .before .before .before .before .before .before .before .before .before .pre .2) (c .before .before .before .before .before .before .before .before .before .before .before .before .before .before .before .pre .3)) (c .before .before .before .before .before .before .before .before .loop-test .taken) (c .before .before .before .before .before .before .before .before .before .before .before .before .before .before .before .pre .3 .rows) (omega (arith, c .before .before .before .before .before .before .before .before .before .loop .inv .1, c .before .before .before .before .before .before .before .before .before .before .before .before .before .before .before .pre .3 .wide)) (c .before .before .before .before .before .level .ensures .0))
 
 top-requires-2 : tie.Need-top-requires-2 Inv-loop μ-loop
-top-requires-2 c κs = (c .before .before .before .group .ensures .steady .frame .length-is ∙ c .before .before .before .before .before .before .before .before .before .level .ensures .frame .length-is ∙ c .before .before .before .before .before .before .before .before .before .before .before .before .before .loop .inv .0 ∙ c .before .before .before .before .before .before .before .before .before .before .before .before .before .before .before .before .before .before .before .pre .3 .between .growth .given .size-is, c .before .before .before .before .before .before .before .before .before .before .before .before .before .before .before .before .before .before .before .pre .3 .between .growth .given .few)
+top-requires-2 c κs = (c .before .before .before .group .ensures .steady .frame .length-is ∙ c .before .before .before .before .before .before .before .before .before .level .ensures .0 .frame .length-is ∙ c .before .before .before .before .before .before .before .before .before .before .before .before .before .loop .inv .0 ∙ c .before .before .before .before .before .before .before .before .before .before .before .before .before .before .before .before .before .before .before .pre .3 .between .growth .given .size-is, c .before .before .before .before .before .before .before .before .before .before .before .before .before .before .before .before .before .before .before .pre .3 .between .growth .given .few)
 
 loop-less : tie.Need-loop-less Inv-loop μ-loop
-loop-less c = tree-less (c .before .before .before .before .before .before .before .before .before .before .before .before .before .before .loop .inv .2 (c .before .before .before .before .before .before .before .before .before .before .before .before .before .before .before .before .before .before .before .before .pre .0) (c .before .before .before .before .before .before .before .before .before .before .before .before .before .before .before .before .before .before .before .before .pre .1) (c .before .before .before .before .before .before .before .before .before .before .before .before .before .before .before .before .before .before .before .before .pre .2) (c .before .before .before .before .before .before .before .before .before .before .before .before .before .before .before .before .before .before .before .before .pre .3)) (c .before .before .before .before .before .before .before .before .before .before .before .before .before .loop-test .taken) (c .before .before .before .before .before .before .before .before .before .before .before .before .before .before .before .before .before .before .before .before .pre .3 .rows) (omega (arith, c .before .before .before .before .before .before .before .before .before .before .before .before .before .before .loop .inv .1, c .before .before .before .before .before .before .before .before .before .before .before .before .before .before .before .before .before .before .before .before .pre .3 .wide)) (c .before .before .before .before .before .before .before .before .before .before .level .ensures) (c .before .before .before .before .group .ensures) (c .top2 .ensures)
+loop-less c = tree-less (c .before .before .before .before .before .before .before .before .before .before .before .before .before .before .loop .inv .2 (c .before .before .before .before .before .before .before .before .before .before .before .before .before .before .before .before .before .before .before .before .pre .0) (c .before .before .before .before .before .before .before .before .before .before .before .before .before .before .before .before .before .before .before .before .pre .1) (c .before .before .before .before .before .before .before .before .before .before .before .before .before .before .before .before .before .before .before .before .pre .2) (c .before .before .before .before .before .before .before .before .before .before .before .before .before .before .before .before .before .before .before .before .pre .3)) (c .before .before .before .before .before .before .before .before .before .before .before .before .before .loop-test .taken) (c .before .before .before .before .before .before .before .before .before .before .before .before .before .before .before .before .before .before .before .before .pre .3 .rows) (omega (arith, c .before .before .before .before .before .before .before .before .before .before .before .before .before .before .loop .inv .1, c .before .before .before .before .before .before .before .before .before .before .before .before .before .before .before .before .before .before .before .before .pre .3 .wide)) (c .before .before .before .before .before .before .before .before .before .before .level .ensures .0) (c .before .before .before .before .group .ensures) (c .top2 .ensures)
 
 loop-again : tie.Need-loop-again Inv-loop μ-loop
-loop-again c = (c .before .before .before .before .group .ensures .steady .frame .length-is ∙ c .before .before .before .before .before .before .before .before .before .before .level .ensures .frame .length-is ∙ c .before .before .before .before .before .before .before .before .before .before .before .before .before .before .loop .inv .0, search needs, λ G o fits P. tree-next (c .before .before .before .before .before .before .before .before .before .before .before .before .before .before .loop .inv .2 G o fits P) (c .before .before .before .before .before .before .before .before .before .before .before .before .before .loop-test .taken) (P .rows) (omega (arith, c .before .before .before .before .before .before .before .before .before .before .before .before .before .before .loop .inv .1, P .wide)) (c .before .before .before .before .before .before .before .before .before .before .level .ensures) (c .before .before .before .before .group .ensures) (c .top2 .ensures))
+loop-again c = (c .before .before .before .before .group .ensures .steady .frame .length-is ∙ c .before .before .before .before .before .before .before .before .before .before .level .ensures .0 .frame .length-is ∙ c .before .before .before .before .before .before .before .before .before .before .before .before .before .before .loop .inv .0, search needs, λ G o fits P. tree-next (c .before .before .before .before .before .before .before .before .before .before .before .before .before .before .loop .inv .2 G o fits P) (c .before .before .before .before .before .before .before .before .before .before .before .before .before .loop-test .taken) (P .rows) (omega (arith, c .before .before .before .before .before .before .before .before .before .before .before .before .before .before .loop .inv .1, P .wide)) (c .before .before .before .before .before .before .before .before .before .before .level .ensures .0) (c .before .before .before .before .group .ensures) (c .top2 .ensures))
 
 same-length : tie.Need-same-length Inv-loop μ-loop
 same-length c = c .before .loop .inv .0

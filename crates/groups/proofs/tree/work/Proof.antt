@@ -11,7 +11,7 @@ prepare-requires : tie.Need-prepare-requires
 prepare-requires c κs = search needs
 
 levels-requires : tie.Need-levels-requires
-levels-requires c κs = (c .before .before .before .before .before .before .before .before .before .before .before .before .before .before .before .pre .0, c .before .before .before .before .before .before .before .before .before .before .before .before .before .before .before .pre .1 .given .order, given-fits (c .before .before .before .before .before .before .before .before .before .before .before .before .before .before .before .pre .1 .given), work-levels (c .before .before .before .before .before .before .before .before .before .before .before .before .before .before .before .pre .1) (c .before .before .before .before .before .before .before .before .before .rows .ensures) (c .before .before .before .before .before .prepare .ensures))
+levels-requires c κs = (c .before .before .before .before .before .before .before .before .before .before .before .before .before .before .before .pre .0, c .before .before .before .before .before .before .before .before .before .before .before .before .before .before .before .pre .1 .given .order, given-fits (c .before .before .before .before .before .before .before .before .before .before .before .before .before .before .before .pre .1 .given), work-levels (c .before .before .before .before .before .before .before .before .before .before .before .before .before .before .before .pre .1) (c .before .before .before .before .before .before .before .before .before .rows .ensures .0) (c .before .before .before .before .before .prepare .ensures))
 
 same-length : tie.Need-same-length
 same-length c = search needs
@@ -23,7 +23,7 @@ same-length-3 : tie.Need-same-length-3
 same-length-3 c = search needs
 
 returns : tie.Need-returns
-returns c = λ G o fits P. c .before .before .before .before .levels .ensures G o fits (work-levels P (c .before .before .before .before .before .before .before .before .before .before .before .before .before .before .rows .ensures) (c .before .before .before .before .before .before .before .before .before .before .prepare .ensures))
+returns c = λ G o fits P. c .before .before .before .before .levels .ensures G o fits (work-levels P (c .before .before .before .before .before .before .before .before .before .before .before .before .before .before .rows .ensures .0) (c .before .before .before .before .before .before .before .before .before .before .prepare .ensures))
 
 pub work-spec : {M : Type 1} → statement M
 work-spec =
