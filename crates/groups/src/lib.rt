@@ -1,3 +1,3 @@
 // The stored groups of each level, and the whole: from sorted links and strengths to the forest and the groups.
-pub mod level;
+mod level;
 pub mod tree;

@@ -1,3 +1,3 @@
 // From supports to strengths, by peeling.
 pub mod peel;
-pub mod seed;
+mod seed;

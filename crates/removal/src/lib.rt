@@ -1,5 +1,5 @@
 // One link is removed: the triangles that are left on it are taken off the supports of their other links.
 pub mod centre;
-pub mod marks;
+mod marks;
 pub mod queue;
 pub mod remove;

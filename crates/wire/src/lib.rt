@@ -26,7 +26,7 @@ pub enum Body {
     Unknown,
 }
 
-pub fn body_length(kind: u8) -> Body
+fn body_length(kind: u8) -> Body
     ensures { λ r. ⌜ bodyOf r ≡ bodyLength kind ⌝ }
 {
     match kind {
