@@ -2,4 +2,5 @@
 pub mod Chains
 pub mod Order
 pub mod State
+pub mod Kept
 pub mod Gives

@@ -24,13 +24,13 @@ same-length : tie.Need-same-length
 same-length c = search needs
 
 returns : tie.Need-returns
-returns c = load-repeat ((c .before .before .before .before .before .before .before .before .before .before .before .pre)) (c .before .before .before .before .before .before .before .scan .ensures) (c .before .before .before .sort .ensures _ (sort-asks ((c .before .before .before .before .before .before .before .before .before .before .before .pre)) (c .before .before .before .before .before .before .before .scan .ensures))) (c .if1 .taken)
+returns c = load-repeat ((c .before .before .before .before .before .before .before .before .before .before .before .pre)) (c .before .before .before .before .before .before .before .scan .ensures) (c .before .before .before .sort .ensures .0 _ (sort-asks ((c .before .before .before .before .before .before .before .before .before .before .before .pre)) (c .before .before .before .before .before .before .before .scan .ensures))) (c .if1 .taken)
 
 same-length-2 : tie.Need-same-length-2
 same-length-2 c = search needs
 
 returns-2 : tie.Need-returns-2
-returns-2 c = load-scan ((c .before .before .before .before .before .before .before .before .before .before .before .pre)) (c .before .before .before .before .before .before .before .scan .ensures) (c .before .before .before .sort .ensures _ (sort-asks ((c .before .before .before .before .before .before .before .before .before .before .before .pre)) (c .before .before .before .before .before .before .before .scan .ensures))) (c .if1 .left)
+returns-2 c = load-scan ((c .before .before .before .before .before .before .before .before .before .before .before .pre)) (c .before .before .before .before .before .before .before .scan .ensures) (c .before .before .before .sort .ensures .0 _ (sort-asks ((c .before .before .before .before .before .before .before .before .before .before .before .pre)) (c .before .before .before .before .before .before .before .scan .ensures))) (c .if1 .left)
 
 pub load-spec : {M : Type 1} → statement M
 load-spec =
