@@ -2,5 +2,6 @@
 pub mod Records
 pub mod SortedLinks
 pub mod Load
+pub mod Leaves
 pub mod Answers
 pub mod Checks

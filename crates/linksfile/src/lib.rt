@@ -5,12 +5,16 @@ ghost use Rattle.truss.specs.Graph.{link};
 ghost use Rattle.truss.specs.LinksFile.{readHead};
 ghost use Rattle.linksfile.specs.Records.{keyOf, recordAt};
 ghost use Rattle.linksfile.specs.Load.{Ended, ScanAsks, Scanned, LoadAsks, LoadGives};
+ghost use Rattle.linksfile.specs.Leaves.{FileOnly, ScanLeaves, LoadClears};
 ghost use Rattle.linksfile.specs.Answers.{headOf, plainOf};
 use columns::HALF;
+use columns::KEY;
 use columns::put;
+use columns::wipe;
 use limits::MOST_ACCOUNTS;
 use limits::MOST_LINKS;
 use sorting::FILE;
+use sorting::ROW;
 use sorting::sort;
 use wire::END;
 use wire::HEAD;
@@ -122,6 +126,7 @@ fn ending(s: &[u8], at: usize) -> Found
 fn scan(s: &[u8], n: usize, m: usize, w: &mut [u32]) -> Stopped
     requires { ⌜ ScanAsks m n (now w) ⌝ }
     ensures { λ r. ⌜ Scanned (now (s .entry)) n m (r .count) (r .number) (r .place) (now (w .exit)) ⌝ }
+    ensures { λ _. ⌜ FileOnly m (now (w .entry)) (now (w .exit)) ⌝ }
 {
     let mut i: usize = 0;
     while i < m {
@@ -146,10 +151,11 @@ fn scan(s: &[u8], n: usize, m: usize, w: &mut [u32]) -> Stopped
     }
 }
 
-// The records of a file whose head is good: the first fault of 1, 4, 5, 6 in file order, or the keys, sorted, in column 0.
-pub fn load(s: &[u8], n: usize, m: usize, w: &mut [u32]) -> Found
+// The first fault of 1, 4, 5, 6 in file order, or the keys, sorted, in column KEY.
+fn scan_sorted(s: &[u8], n: usize, m: usize, w: &mut [u32]) -> Found
     requires { ⌜ LoadAsks (now s) n m (now w) ⌝ }
     ensures { λ r. ⌜ LoadGives (now (s .entry)) n m (r .number) (r .place) (now (w .exit)) ⌝ }
+    ensures { λ _. ⌜ ScanLeaves m (now (w .entry)) (now (w .exit)) ⌝ }
 {
     let f = scan(s, n, m, w);
     let t = f.count;
@@ -164,4 +170,20 @@ pub fn load(s: &[u8], n: usize, m: usize, w: &mut [u32]) -> Found
         number: f.number,
         place: f.place,
     }
+}
+
+// The records of a file whose head is good: the first fault of 1, 4, 5, 6 in file order, or the keys, sorted, in column KEY, which is 0 where there is a
+// fault. The columns that the sort uses are 0 afterwards, and all others stay.
+pub fn load(s: &[u8], n: usize, m: usize, w: &mut [u32]) -> Found
+    requires { ⌜ LoadAsks (now s) n m (now w) ⌝ }
+    ensures { λ r. ⌜ LoadClears (now (s .entry)) n m (r .number) (r .place) (now (w .entry)) (now (w .exit)) ⌝ }
+{
+    let f = scan_sorted(s, n, m, w);
+    wipe(w, m, ROW);
+    wipe(w, m, FILE);
+    if f.number == 0 {
+        return f;
+    }
+    wipe(w, m, KEY);
+    f
 }

@@ -1,5 +1,6 @@
 -- `linksfile::scan` meets its contract. Assumes nothing.
 use Rattle.linksfile.specs.Checks.{Scanning, scanning-none, scanning-more, scanned-fault, scanned-end, fault-number, key-small}
+use Rattle.linksfile.specs.Leaves.{FileOnly, file-none, file-more}
 use Rattle.linksfile.specs.Answers.{plainOf}
 use lib.ListN.{length}
 use native.Mathlib.Omega.{arith}
@@ -10,13 +11,13 @@ use Rattle.linksfile.proofs.scan.Statement.{statement}
 use Rattle.linksfile.proofs.scan.Tie as tie
 
 abbrev Inv-loop : tie.InvT-loop
-Inv-loop s n m w₀ i₀ w i = (length w ≡ length w₀) × Scanning s n m i w
+Inv-loop s n m w₀ i₀ w i = (length w ≡ length w₀) × Scanning s n m i w × FileOnly m w₀ w
 
 abbrev μ-loop : tie.MeasureT-loop
 μ-loop s n m w₀ i₀ w i = m - i
 
 loop-holds : tie.Need-loop-holds Inv-loop μ-loop
-loop-holds c = (refl, scanning-none (c .before .before .pre .size))
+loop-holds c = (refl, scanning-none (c .before .before .pre .size), file-none)
 
 mul-at : tie.Need-mul-at Inv-loop μ-loop
 mul-at c = omega (arith, c .before .before .before .before .pre .few, c .loop-test .taken)
@@ -50,7 +51,7 @@ returns : tie.Need-returns Inv-loop μ-loop
 unfolding plainOf
 returns c =
     let q = sym (ap (λ x. plainOf x (5 + 5 * c .before .before .before .before .before .loop .i)) (c .before .number .given .1)) ∙ c .before .before .before .read-link .ensures in
-    scanned-fault (c .before .before .before .before .before .loop .inv .1) (c .before .before .before .before .loop-test .taken) (fault-number (c .before .before .before .before .before .before .before .before .args .s .now) (c .before .before .before .before .before .before .before .before .args .n) _ _ q) q
+    (scanned-fault (c .before .before .before .before .before .loop .inv .1) (c .before .before .before .before .loop-test .taken) (fault-number (c .before .before .before .before .before .before .before .before .args .s .now) (c .before .before .before .before .before .before .before .before .args .n) _ _ q) q, c .before .before .before .before .before .loop .inv .2)
 
 add-i : tie.Need-add-i Inv-loop μ-loop
 add-i c = omega (arith, c .before .before .before .before .before .before .before .before .before .before .before .before .pre .few, c .before .before .before .before .before .before .before .before .loop-test .taken)
@@ -62,7 +63,7 @@ loop-again : tie.Need-loop-again Inv-loop μ-loop
 unfolding plainOf
 loop-again c =
     let q = sym (ap (λ x. plainOf x (5 + 5 * c .before .before .before .before .before .before .before .before .before .loop .i)) (c .before .before .before .before .before .k .given .1)) ∙ c .before .before .before .before .before .before .before .read-link .ensures in
-    (search needs, scanning-more (c .before .before .before .before .before .before .before .before .before .loop .inv .1) (c .before .before .before .before .before .before .before .before .loop-test .taken) q (c .before .before .put .ensures))
+    (search needs, scanning-more (c .before .before .before .before .before .before .before .before .before .loop .inv .1) (c .before .before .before .before .before .before .before .before .loop-test .taken) q (c .before .before .put .ensures), file-more _ _ (c .before .before .before .before .before .before .before .before .before .loop .inv .2) (c .before .before .before .before .before .before .before .before .loop-test .taken) (c .before .before .put .ensures))
 
 mul-ending : tie.Need-mul-ending Inv-loop μ-loop
 mul-ending c = omega (arith, c .before .before .before .before .pre .few)
@@ -77,7 +78,7 @@ same-length-2 : tie.Need-same-length-2 Inv-loop μ-loop
 same-length-2 c = c .before .before .loop .inv .0
 
 returns-2 : tie.Need-returns-2 Inv-loop μ-loop
-returns-2 c = scanned-end (c .before .before .loop .inv .1) (c .before .loop-test .left) (c .ending .ensures)
+returns-2 c = (scanned-end (c .before .before .loop .inv .1) (c .before .loop-test .left) (c .ending .ensures), c .before .before .loop .inv .2)
 
 pub scan-spec : {M : Type 1} → statement M
 scan-spec =
