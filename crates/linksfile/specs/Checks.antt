@@ -89,7 +89,7 @@ module _ (b : List ℕ) (at : ℕ) where
 
   pub end-good : whole b at kindEnd ≡ true → at + 1 ≡ length b → Ended b at 0 0
   unfolding endAt
-  end-good w e = good refl (rw (w, eq-eqb (length b) (at + 1) (sym e)) refl)
+  end-good w e = good refl refl (rw (w, eq-eqb (length b) (at + 1) (sym e)) refl)
 
 -- ---- the scan
 

@@ -51,6 +51,7 @@ scan-leaves F S = record {
 
 pub record LoadClears (b : List ℕ) (n m number place : ℕ) (w w′ : List ℕ) : Type 0 where
   pub outcome : faultOf number place ≡ forget (readPairs b n m 5 [])
+  pub no-place : number ≡ 0 → place ≡ 0
   pub named : (ps : List Pair) → readPairs b n m 5 [] ≡ accepted n ps → Named (graphOf n ps) m n w′
   pub length-is : length w′ ≡ 16 * m
   pub no-keys : number ≢ 0 → (y : ℕ) → y < m → cell w′ m 0 y ≡ 0
@@ -83,6 +84,7 @@ module _ {b : List ℕ} {n m number place : ℕ} {w w₁ w₂ w₃ : List ℕ} (
   pub load-good : number ≡ 0 → LoadClears b n m number place w w₃
   load-good z = record {
     outcome = L .outcome;
+    no-place = L .no-place;
     named = λ ps h. named-same (F .length-is ∙ R .length-is) (λ i k. F .others 0 i (omega arith) k ∙ R .others 0 i (omega arith) k) (L .named ps h);
     length-is = F .length-is ∙ R .length-is ∙ L .length-is;
     no-keys = λ ne. absurd (ne z);
@@ -103,6 +105,7 @@ module _ {b : List ℕ} {n m number place : ℕ} {w w₁ w₂ w₃ : List ℕ} (
   pub load-bad : {w₄ : List ℕ} → number ≢ 0 → Wiping m 0 m w₃ w₄ → LoadClears b n m number place w w₄
   load-bad {w₄} ne Z = record {
     outcome = L .outcome;
+    no-place = L .no-place;
     named = λ ps h. absurd (not-accepted ne ps h);
     length-is = Z .length-is ∙ F .length-is ∙ R .length-is ∙ L .length-is;
     no-keys = λ _. Z .zero;

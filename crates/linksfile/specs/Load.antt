@@ -31,10 +31,10 @@ unfoldable pub forget : {A : Type 0} → Checked A → Checked (Unit {0})
 forget (passed x) = passed tt
 forget (refused r) = refused r
 
--- the end's checks: a number of 0 for no fault
+-- the end's checks: number and place are 0 for no fault
 pub data Ended (b : List ℕ) (at number place : ℕ) : Type 0 where
   fault : number ≢ 0 → endAt b at ≡ refuse number place → Ended b at number place
-  good : number ≡ 0 → endAt b at ≡ passed tt → Ended b at number place
+  good : number ≡ 0 → place ≡ 0 → endAt b at ≡ passed tt → Ended b at number place
 
 -- what stopped a scan after so many records: the next one's own fault, or the end
 pub data Stop (b : List ℕ) (n m count number place : ℕ) : Type 0 where
@@ -62,6 +62,7 @@ pub record LoadAsks (b : List ℕ) (n m : ℕ) (w : List ℕ) : Type 0 where
 -- what loading gives: the walk's own outcome, and the graph in column 0 where there is no fault
 pub record LoadGives (b : List ℕ) (n m number place : ℕ) (w : List ℕ) : Type 0 where
   pub outcome : faultOf number place ≡ forget (readPairs b n m 5 [])
+  pub no-place : number ≡ 0 → place ≡ 0
   pub named : (ps : List Pair) → readPairs b n m 5 [] ≡ accepted n ps → Named (graphOf n ps) m n w
   pub length-is : length w ≡ 16 * m
 
@@ -114,7 +115,7 @@ module _ {b : List ℕ} {n m count number place : ℕ} {w₀ w₁ : List ℕ} (P
 
     refusal : (k p : ℕ) → k ≢ 0 → readPairs b n m 5 [] ≡ refuse k p → LoadGives b n m k p w₂
     unfolding faultOf forget
-    refusal k p ne h = record { outcome = rw (ne-eqb k 0 ne, h) refl; named = none-named h; length-is = size₂ }
+    refusal k p ne h = record { outcome = rw (ne-eqb k 0 ne, h) refl; no-place = λ z. absurd (ne z); named = none-named h; length-is = size₂ }
 
     -- a repeat
     pub load-repeat : best < count → LoadGives b n m 6 (placeOf best) w₂
@@ -142,8 +143,9 @@ module _ {b : List ℕ} {n m count number place : ℕ} {w₀ w₁ : List ℕ} (P
 
             all-new : NoRepeat κ m
             all-new = subst (NoRepeat κ) c (no-repeat l)
-        go (at-end c (good z e)) = record {
+        go (at-end c (good z p e)) = record {
           outcome = rw (eq-eqb number 0 z, done) refl;
+          no-place = λ _. p;
           named = λ ps h. let q : accepted n (pairsTo b m) ≡ accepted n ps = sym done ∙ h in subst (λ (xs : List Pair). Named (graphOf n xs) m n w₂) (pairs-same q) name;
           length-is = size₂;
         }
