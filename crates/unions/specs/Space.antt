@@ -4,6 +4,7 @@ use mathlib.Core.Logic.{_⊎_, inl, inr, _≢_}
 use mathlib.Core.Bool.{Bool, true, false, _||_}
 use mathlib.Core.List.{List, [], _∷_, map}
 use Prim.Native.Nat.{ℕ, zero, suc, _*_, _≤_, _<_}
+use native.Mathlib.Nat.{le-refl}
 use native.Mathlib.Omega.{arith}
 use lib.Dec.{eqb}
 use lib.ListN.{length, getD, set, length-map, length-set}
@@ -74,6 +75,26 @@ joining-growing c h = or-right-false (eqb c 7) (joining c) h
 
 pub nexting-growing : (c : ℕ) → growing c ≡ false → nexting c ≡ false
 nexting-growing c h = or-left-false (eqb c 7) (joining c) h
+
+-- ---- columns 9 and 10 beyond the joins: there are j of them at first and r at last, and no entry from r on is touched
+
+pub record JoinsEnd (m j r : ℕ) (w w′ : List ℕ) : Type 0 where
+  pub later : j ≤ r
+  pub ends : (y : ℕ) → r ≤ y → y < m → cell w′ m 9 y ≡ cell w m 9 y
+  pub weights : (y : ℕ) → r ≤ y → y < m → cell w′ m 10 y ≡ cell w m 10 y
+
+pub joins-end-none : {m j : ℕ} {w : List ℕ} → JoinsEnd m j j w w
+joins-end-none {m} {j} = record { later = le-refl j; ends = λ y l k. refl; weights = λ y l k. refl }
+
+pub joins-end-frame : (j : ℕ) {t : Columns} {m : ℕ} {w w′ : List ℕ} → t 9 ≡ false → t 10 ≡ false → Frame t m w w′ → JoinsEnd m j j w w′
+joins-end-frame j a b f = record { later = le-refl j; ends = λ y l k. f .same 9 a y k; weights = λ y l k. f .same 10 b y k }
+
+pub joins-end-trans : {m j r s : ℕ} {w w′ w″ : List ℕ} → JoinsEnd m j r w w′ → JoinsEnd m r s w′ w″ → JoinsEnd m j s w w″
+joins-end-trans p q = record {
+  later = omega (arith, p .later, q .later);
+  ends = λ y l k. q .ends y l k ∙ p .ends y (omega (arith, q .later)) k;
+  weights = λ y l k. q .weights y l k ∙ p .weights y (omega (arith, q .later)) k;
+}
 
 -- ---- column 6 as a list of parents
 
