@@ -97,7 +97,7 @@ module _ {G : Graph} {m n s head₀ tail₀ : ℕ} {d₀ : ℕ → ℕ} {w₀ st
         front = sym is;
       }
 
-      pub drain-next : {a r : ℕ} {mark′ w′ stop′ : List ℕ} → Turned G m e a w mark′ → Removed G m e s head r d w w′ start stop′
+      pub drain-next : {a r : ℕ} {mark′ w′ stop′ : List ℕ} → Turned G m e a w mark′ → Removed G m e s head tail r d w w′ start stop′
           → Draining G m s (head + 1) r a (put d e 1) w₀ w′ start stop′ mark′
       drain-next {a} t r = record { level = r .level; held = held-trans (D .held) (r .held); left = r .left; marked = marked-falls N (r .falls) (t .marked) }
 
