@@ -120,9 +120,9 @@ pub record GoodHead (b : List ℕ) (h : Head) : Type 0 where
   pub accounts : h .n ≤ maxAccounts
   pub links : h .m ≤ maxLinks
 
-pub head-good : (b : List ℕ) (h : Head) → readHead b ≡ passed h → GoodHead b h
+pub head-good : (kind : ℕ) (b : List ℕ) (h : Head) → readHead kind b ≡ passed h → GoodHead b h
 unfolding readHead
-head-good b h q = record {
+head-good kind b h q = record {
   is-n = sym same-n;
   is-m = sym same-m;
   some-account = let z : n ≢ 0 = eqb-false n 0 (or-left-false (eqb n 0) (ltb maxAccounts n) (t2 .0)) in omega (arith, same-n, z);
@@ -145,8 +145,8 @@ head-good b h q = record {
     c1 : Checked Head
     c1 = refuseIf (eqb n 0 || ltb maxAccounts n) 2 0 c2
 
-    t1 : (not (whole b 0 kindHead) ≡ false) × (c1 ≡ passed h)
-    t1 = not-refused (not (whole b 0 kindHead)) 1 0 h c1 q
+    t1 : (not (whole b 0 kind) ≡ false) × (c1 ≡ passed h)
+    t1 = not-refused (not (whole b 0 kind)) 1 0 h c1 q
 
     t2 : ((eqb n 0 || ltb maxAccounts n) ≡ false) × (c2 ≡ passed h)
     t2 = not-refused (eqb n 0 || ltb maxAccounts n) 2 0 h c2 (t1 .1)
@@ -165,10 +165,10 @@ head-good b h q = record {
 
 pub read-named : (b : List ℕ) (n : ℕ) (ps : List Pair) → readLinks b ≡ accepted n ps → Named n ps
 unfolding readLinks andThen
-read-named b n ps h = go (readHead b) refl h
+read-named b n ps h = go (readHead kindHead b) refl h
   where
-    go : (x : Checked Head) → readHead b ≡ x → andThen x (λ (y : Head). readPairs b (y .n) (y .m) 5 []) ≡ accepted n ps → Named n ps
-    go (passed y) e q = from (head-good b y e) (read-good b (y .n) (y .m) 5 [] (record { fit = λ p k. absurd (in-nil k); distinct = tt }) n ps q)
+    go : (x : Checked Head) → readHead kindHead b ≡ x → andThen x (λ (y : Head). readPairs b (y .n) (y .m) 5 []) ≡ accepted n ps → Named n ps
+    go (passed y) e q = from (head-good kindHead b y e) (read-good b (y .n) (y .m) 5 [] (record { fit = λ p k. absurd (in-nil k); distinct = tt }) n ps q)
       where
         from : GoodHead b y → (n ≡ y .n) × GoodPairs (y .n) ps × (length ps ≡ 0 + y .m) → Named n ps
         from g (a, c, d) = record {

@@ -2,6 +2,7 @@
 use mathlib.Core.Path.{_≡_, refl, sym, ap, _∙_, subst}
 use mathlib.Core.Logic.{_⊎_, inl, inr, _≢_}
 use mathlib.Core.Bool.{Bool, true, false, not, _||_}
+use mathlib.Core.Option.{some}
 use mathlib.Core.List.{List}
 use Prim.Native.Nat.{ℕ, _+_, _*_, _≤_, _<_}
 use native.Mathlib.Omega.{arith}
@@ -11,44 +12,43 @@ use borrow.Author.Tests.{eq-eqb, ne-eqb, lt-ltb, le-ltb, le-leb, lt-leb}
 use Rattle.truss.specs.Limits.{maxAccounts, maxLinks}
 use Rattle.truss.specs.Graph.{link}
 use Rattle.truss.specs.Refusal.{Refusal, Checked, passed, refuse, refuseIf}
-use Rattle.truss.specs.Record.{kindHead, kindEnd, kindPlainLink, bodyLength, fieldAt, whole}
+use Rattle.truss.specs.Record.{kindEnd, kindPlainLink, bodyLength, fieldAt, whole}
 use Rattle.truss.specs.LinksFile.{readHead}
 use Rattle.laws.proofs.Numbers.{same-or-not}
-use Rattle.columns.specs.Columns.{cell, store}
+use Rattle.columns.specs.Columns.{cell, store, COLUMNS}
 use Rattle.columns.specs.Laws.{stored, kept-entry, length-store}
 use Rattle.wire.specs.Wire.{whole-within}
 use Rattle.linksfile.specs.Records.{keyOf, placeOf, recordAt, endAt, Good, sound}
 use Rattle.linksfile.specs.Load.{Ended, fault, good, at-record, at-end, Scanned}
 
 -- a whole record lies within the bytes
-pub whole-head : (b : List ℕ) → whole b 0 kindHead ≡ true → 5 ≤ length b
-unfolding bodyLength
-whole-head b h = whole-within kindHead b 0 refl h
+pub whole-head : (kind : ℕ) (b : List ℕ) → bodyLength kind ≡ some 4 → whole b 0 kind ≡ true → 5 ≤ length b
+whole-head kind b q h = whole-within kind b 0 q h
 
 pub whole-link : (b : List ℕ) (at : ℕ) → whole b at kindPlainLink ≡ true → at + 5 ≤ length b
 unfolding bodyLength
 whole-link b at h = omega (arith, whole-within kindPlainLink b at refl h)
 
-module _ (b : List ℕ) where
-  pub head-1 : whole b 0 kindHead ≡ false → refuse 1 0 ≡ readHead b
+module _ (kind : ℕ) (b : List ℕ) where
+  pub head-1 : whole b 0 kind ≡ false → refuse 1 0 ≡ readHead kind b
   unfolding readHead
   head-1 w = rw w refl
 
-  module _ (n : ℕ) (w : whole b 0 kindHead ≡ true) (is-n : n ≡ fieldAt b 1) where
-    pub head-2-none : n ≡ 0 → refuse 2 0 ≡ readHead b
+  module _ (n : ℕ) (w : whole b 0 kind ≡ true) (is-n : n ≡ fieldAt b 1) where
+    pub head-2-none : n ≡ 0 → refuse 2 0 ≡ readHead kind b
     unfolding readHead
     head-2-none z = rw (w, eq-eqb (fieldAt b 1) 0 (sym is-n ∙ z)) refl
 
-    pub head-2-many : n ≢ 0 → maxAccounts < n → refuse 2 0 ≡ readHead b
+    pub head-2-many : n ≢ 0 → maxAccounts < n → refuse 2 0 ≡ readHead kind b
     unfolding readHead
     head-2-many z l = rw (w, ← is-n, ne-eqb n 0 z, lt-ltb maxAccounts n l) refl
 
     module _ (m : ℕ) (some-n : n ≢ 0) (few : n ≤ maxAccounts) (is-m : m ≡ fieldAt b 3) where
-      pub head-3 : maxLinks < m → refuse 3 0 ≡ readHead b
+      pub head-3 : maxLinks < m → refuse 3 0 ≡ readHead kind b
       unfolding readHead
       head-3 l = rw (w, ← is-n, ← is-m, ne-eqb n 0 some-n, le-ltb maxAccounts n few, lt-ltb maxLinks m l) refl
 
-      pub head-passes : m ≤ maxLinks → passed (record { n = n; m = m }) ≡ readHead b
+      pub head-passes : m ≤ maxLinks → passed (record { n = n; m = m }) ≡ readHead kind b
       unfolding readHead
       head-passes l = rw (w, ← is-n, ← is-m, ne-eqb n 0 some-n, le-ltb maxAccounts n few, le-ltb maxLinks m l) refl
 
@@ -96,10 +96,10 @@ module _ (b : List ℕ) (at : ℕ) where
 -- the first i records of the file are in column 14
 pub record Scanning (b : List ℕ) (n m i : ℕ) (w : List ℕ) : Type 0 where
   pub part : i ≤ m
-  pub size : length w ≡ 16 * m
+  pub size : length w ≡ COLUMNS * m
   pub keys : Good b n (cell w m 14) i
 
-pub scanning-none : {b : List ℕ} {n m : ℕ} {w : List ℕ} → length w ≡ 16 * m → Scanning b n m 0 w
+pub scanning-none : {b : List ℕ} {n m : ℕ} {w : List ℕ} → length w ≡ COLUMNS * m → Scanning b n m 0 w
 scanning-none h = record { part = omega arith; size = h; keys = λ j l. absurd (omega arith) }
 
 pub scanning-more : {b : List ℕ} {n m i k : ℕ} {w w′ : List ℕ} → Scanning b n m i w → i < m → passed k ≡ recordAt b n (5 + 5 * i) → w′ ≡ store w m 14 i k → Scanning b n m (i + 1) w′

@@ -12,10 +12,11 @@ use borrow.Author.Tests.{eq-eqb, ne-eqb}
 use Rattle.truss.specs.Limits.{maxAccounts, maxLinks}
 use Rattle.truss.specs.Graph.{Pair, linkOf, graphOf}
 use Rattle.truss.specs.Refusal.{Checked, passed, refused, refuse}
+use Rattle.truss.specs.Record.{kindHead}
 use Rattle.truss.specs.LinksFile.{Links, accepted, readHead, readPairs}
 use Rattle.laws.proofs.Numbers.{same-or-not}
 use Rattle.laws.proofs.Accepted.{GoodHead, head-good, read-good}
-use Rattle.columns.specs.Columns.{cell}
+use Rattle.columns.specs.Columns.{cell, COLUMNS}
 use Rattle.columns.specs.Named.{Named}
 use Rattle.sorting.specs.Order.{spot, NoRepeat}
 use Rattle.sorting.specs.State.{Keys, SortedBy}
@@ -44,31 +45,31 @@ pub data Stop (b : List ℕ) (n m count number place : ℕ) : Type 0 where
 -- the scan: the keys of the first records, as far as none has a fault by itself, and what stopped it
 pub record Scanned (b : List ℕ) (n m count number place : ℕ) (w : List ℕ) : Type 0 where
   pub part : count ≤ m
-  pub size : length w ≡ 16 * m
+  pub size : length w ≡ COLUMNS * m
   pub keys : Good b n (cell w m 14) count
   pub stop : Stop b n m count number place
 
 -- what the scan asks of the work space
 pub record ScanAsks (m n : ℕ) (w : List ℕ) : Type 0 where
-  pub size : length w ≡ 16 * m
+  pub size : length w ≡ COLUMNS * m
   pub few : m ≤ 65535
   pub small : n ≤ maxAccounts
 
 -- what the head's checks let pass
 pub record LoadAsks (b : List ℕ) (n m : ℕ) (w : List ℕ) : Type 0 where
-  pub head : readHead b ≡ passed (record { n = n; m = m })
-  pub size : length w ≡ 16 * m
+  pub head : readHead kindHead b ≡ passed (record { n = n; m = m })
+  pub size : length w ≡ COLUMNS * m
 
 -- what loading gives: the walk's own outcome, and the graph in column 0 where there is no fault
 pub record LoadGives (b : List ℕ) (n m number place : ℕ) (w : List ℕ) : Type 0 where
   pub outcome : faultOf number place ≡ forget (readPairs b n m 5 [])
   pub no-place : number ≡ 0 → place ≡ 0
   pub named : (ps : List Pair) → readPairs b n m 5 [] ≡ accepted n ps → Named (graphOf n ps) m n w
-  pub length-is : length w ≡ 16 * m
+  pub length-is : length w ≡ COLUMNS * m
 
 module _ {b : List ℕ} {n m count number place : ℕ} {w₀ w₁ : List ℕ} (P : LoadAsks b n m w₀) (S : Scanned b n m count number place w₁) where
   H : GoodHead b (record { n = n; m = m })
-  H = head-good b (record { n = n; m = m }) (P .head)
+  H = head-good kindHead b (record { n = n; m = m }) (P .head)
 
   pub load-few : m ≤ maxLinks
   unfolding H
@@ -103,7 +104,7 @@ module _ {b : List ℕ} {n m count number place : ℕ} {w₀ w₁ : List ℕ} (P
     κ : ℕ → ℕ
     κ = cell w₁ m 14
 
-    size₂ : length w₂ ≡ 16 * m
+    size₂ : length w₂ ≡ COLUMNS * m
     size₂ = T .taken .sorted .keyed .size
 
     small : n ≤ 65535
@@ -208,5 +209,5 @@ module _ {b : List ℕ} {n m count number place : ℕ} {w₀ w₁ : List ℕ} (P
 
 pub scan-asks : {b : List ℕ} {n m : ℕ} {w : List ℕ} → LoadAsks b n m w → ScanAsks m n w
 scan-asks {b} {n} {m} P =
-    let H = head-good b (record { n = n; m = m }) (P .head) in
+    let H = head-good kindHead b (record { n = n; m = m }) (P .head) in
     record { size = P .size; few = omega (arith, H .links); small = H .accounts }

@@ -1,8 +1,11 @@
 // Links files: the checks of document 01 in their order, and the keys of the pairs, sorted, in the work space.
 ghost use mathlib.Core.Path.{_≡_};
 ghost use Prim.Native.Nat.{_+_, _*_, _<_};
+ghost use mathlib.Core.Option.{some};
+ghost use Rattle.truss.specs.Record.{bodyLength};
 ghost use Rattle.truss.specs.Graph.{link};
 ghost use Rattle.truss.specs.LinksFile.{readHead};
+ghost use Rattle.wire.specs.Wire.{placeBound};
 ghost use Rattle.linksfile.specs.Records.{keyOf, recordAt};
 ghost use Rattle.linksfile.specs.Load.{Ended, ScanAsks, Scanned, LoadAsks, LoadGives};
 ghost use Rattle.linksfile.specs.Leaves.{FileOnly, ScanLeaves, LoadClears};
@@ -17,7 +20,6 @@ use sorting::FILE;
 use sorting::ROW;
 use sorting::sort;
 use wire::END;
-use wire::HEAD;
 use wire::PLAIN_LINK;
 use wire::field_at;
 use wire::whole_record;
@@ -47,11 +49,12 @@ pub struct Stopped {
     pub place: u32,
 }
 
-// The head's checks: 1, 2, 3.
-pub fn read_head(s: &[u8]) -> FileHead
-    ensures { λ r. ⌜ headOf r ≡ readHead (now (s .entry)) ⌝ }
+// The checks of a head, of the kind with which the file begins: 1, 2, 3.
+pub fn read_head(s: &[u8], kind: u8) -> FileHead
+    requires { ⌜ bodyLength kind ≡ some 4 ⌝ }
+    ensures { λ r. ⌜ headOf r ≡ readHead kind (now (s .entry)) ⌝ }
 {
-    if !whole_record(s, 0, HEAD) {
+    if !whole_record(s, 0, kind) {
         return FileHead::Refused(1);
     }
     let n = field_at(s, 1);
@@ -79,7 +82,7 @@ fn key_of(a: usize, b: usize) -> usize
 
 // One record's own checks: 1, 4, 5.
 fn read_link(s: &[u8], at: usize, n: usize) -> Plain
-    requires { ⌜ at < 1000000 ⌝ }
+    requires { ⌜ at < placeBound ⌝ }
     ensures { λ r. ⌜ plainOf r at ≡ recordAt (now (s .entry)) n at ⌝ }
 {
     if !whole_record(s, at, PLAIN_LINK) {
@@ -101,7 +104,7 @@ fn read_link(s: &[u8], at: usize, n: usize) -> Plain
 
 // The end record and nothing after it.
 fn ending(s: &[u8], at: usize) -> Found
-    requires { ⌜ at < 1000000 ⌝ }
+    requires { ⌜ at < placeBound ⌝ }
     ensures { λ r. ⌜ Ended (now (s .entry)) at (r .number) (r .place) ⌝ }
 {
     if !whole_record(s, at, END) {

@@ -27,13 +27,13 @@ accepted n ps = passed (record { n = n; pairs = ps })
 abbrev pub graphOfLinks : Links → Graph
 graphOfLinks l = graphOf (l .n) (l .pairs)
 
--- "The head is checked as 1, 2, 3": 1, no whole head; 2, "n is 0 or above 1,024"; 3, "m above 2,048"
-unfoldable pub readHead : List ℕ → Checked Head
+-- "The head is checked as 1, 2, 3": 1, no whole head of the kind with which the file begins; 2, "n is 0 or above 1,024"; 3, "m above 2,048"
+unfoldable pub readHead : ℕ → List ℕ → Checked Head
 unfolding bodyLength holdsBody
-readHead b =
+readHead kind b =
     let n = fieldAt b 1 in
     let m = fieldAt b 3 in
-    refuseIf (not (whole b 0 kindHead)) 1 0
+    refuseIf (not (whole b 0 kind)) 1 0
     (refuseIf (eqb n 0 || ltb maxAccounts n) 2 0
     (refuseIf (ltb maxLinks m) 3 0
     (passed (record { n = n; m = m }))))
@@ -59,7 +59,7 @@ readPairs b n (suc r) at seen =
 -- "A links file is one head, m plain links in any order, one end."
 unfoldable pub readLinks : List ℕ → Checked Links
 unfolding andThen readHead readPairs
-readLinks b = andThen (readHead b) (λ h. readPairs b (h .n) (h .m) 5 [])
+readLinks b = andThen (readHead kindHead b) (λ h. readPairs b (h .n) (h .m) 5 [])
 
 -- ---- a links file as it is written: pairs in a given order
 

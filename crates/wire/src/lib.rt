@@ -10,6 +10,9 @@ ghost use Rattle.wire.specs.Writing.{Tells, written};
 
 pub const HEAD: u8 = 1;
 
+// The head with which an index begins.
+pub const INDEX_HEAD: u8 = HEAD;
+
 pub const STRONG_LINK: u8 = 2;
 
 pub const JOIN: u8 = 3;
