@@ -9,6 +9,7 @@ use lib.ListN.{length, getD, take, drop, length-append, List·getD-append}
 use lib.Seq.{getD-append-add, take-at, drop-at, take-add, take-take}
 use Rattle.laws.proofs.Numbers.{same-or-not}
 use Rattle.wire.specs.Writing.{upTo, upTo-more, upTo-length}
+use Rattle.wire.specs.RowBytes.{upTo-split}
 
 -- a piece of a front is a piece of the whole
 drop-take-front : (at l n : ℕ) (s : List ℕ) → at + l ≤ n → take l (drop at (take n s)) ≡ take l (drop at s)
@@ -30,27 +31,6 @@ pub front-not : (s xs ys zs : List ℕ) (at l : ℕ) → length xs ≡ at → le
 front-not s xs ys zs at l a b n q = n (ap (λ (x : List ℕ). take l (drop at x)) q ∙ ap (take l) (drop-at xs (ys ++ zs) at a) ∙ take-at ys zs l b)
 
 module _ (f : ℕ → List ℕ) (l : ℕ) (long : (i : ℕ) → length (f i) ≡ l) where
-  -- record i stands after the first i
-  pub upTo-split : (m i : ℕ) → i < m → (rest : List ℕ) × (upTo f m ≡ upTo f i ++ (f i ++ rest))
-  unfolding upTo
-  upTo-split zero i h = absurd (omega arith)
-  upTo-split (suc m) i h = go (same-or-not i m) (upTo-split m i)
-    where
-      go : (i ≡ m) ⊎ (i ≢ m) → (i < m → (rest : List ℕ) × (upTo f m ≡ upTo f i ++ (f i ++ rest))) → (rest : List ℕ) × (upTo f m ++ f m ≡ upTo f i ++ (f i ++ rest))
-      go (inl q) ih = ([], rw q (ap (λ (x : List ℕ). upTo f m ++ x) (sym (append-nil (f m)))))
-      go (inr q) ih =
-          let r = ih (omega arith) in
-          (r .0 ++ f m, ap (λ (x : List ℕ). x ++ f m) (r .1) ∙ append-assoc (upTo f i) (f i ++ r .0) (f m) ∙ ap (λ (x : List ℕ). upTo f i ++ x) (append-assoc (f i) (r .0) (f m)))
-
-  -- byte j of record i, where the records stand after a front
-  pub row-byte : (pre suf : List ℕ) (m i j : ℕ) → i < m → j < l → getD (pre ++ (upTo f m ++ suf)) (length pre + i * l + j) 0 ≡ getD (f i) j 0
-  row-byte pre suf m i j h k =
-      let r = upTo-split m i h in
-      let e : pre ++ (upTo f m ++ suf) ≡ (pre ++ upTo f i) ++ (f i ++ (r .0 ++ suf)) = ap (λ (x : List ℕ). pre ++ (x ++ suf)) (r .1) ∙ simp append-assoc in
-      let p : length pre + i * l + j ≡ length (pre ++ upTo f i) + j = omega (arith, length-append pre (upTo f i), upTo-length f l long i) in
-      ap₂ (λ (x : List ℕ) (y : ℕ). getD x y 0) e p ∙ getD-append-add (pre ++ upTo f i) (f i ++ (r .0 ++ suf)) j 0
-      ∙ List·getD-append (f i) (r .0 ++ suf) 0 j (omega (arith, k, long i))
-
   -- the bytes begin with the first i records
   pub record Matching (s : List ℕ) (i at : ℕ) : Type 0 where
     pub place : at ≡ i * l
@@ -70,7 +50,7 @@ module _ (f : ℕ → List ℕ) (l : ℕ) (long : (i : ℕ) → length (f i) ≡
   matching-not {s} {i} {at} m M h room n q = n (part-front s at l room ∙ inner)
     where
       r : (rest : List ℕ) × (upTo f m ≡ upTo f i ++ (f i ++ rest))
-      r = upTo-split m i h
+      r = upTo-split f l long m i h
 
       fits : at + l ≤ m * l
       fits = let p = M .place in let k : suc i * l ≤ m * l = mul-le-mul-right l h in let e = suc-mul i l in omega arith

@@ -2,3 +2,4 @@
 pub mod Wire
 pub mod WireLaws
 pub mod Writing
+pub mod RowBytes

@@ -17,6 +17,10 @@ unfoldable pub bodyOf : Body → Option ℕ
 bodyOf (Length l) = some l
 bodyOf Unknown = none
 
+-- above every place that is looked at in a file
+abbrev pub placeBound : ℕ
+placeBound = 1000000
+
 -- a whole record lies within the bytes: its kind and its body
 pub whole-within : (kind : ℕ) {l : ℕ} (b : List ℕ) (at : ℕ) → bodyLength kind ≡ some l → whole b at kind ≡ true → at + 1 + l ≤ length b
 unfolding holdsBody
