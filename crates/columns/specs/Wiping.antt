@@ -4,11 +4,12 @@ use mathlib.Core.Logic.{_⊎_, inl, inr, _≢_}
 use mathlib.Core.Path.{ap}
 use mathlib.Core.List.{List, [], _∷_}
 use Prim.Native.Nat.{ℕ, zero, suc, _+_, _*_, _-_, _/_, _%_, _≤_, _<_}
+use native.Mathlib.Nat.{mod-lt, div-add-mod', div-lt-iff-lt-mul}
 use native.Mathlib.Omega.{arith}
 use lib.ListN.{length, getD, set, length-set}
 use lib.Seq.{ext-getD, getD-set-same, getD-set-other}
 use Rattle.columns.specs.Columns.{cell, store, COLUMNS}
-use Rattle.laws.proofs.Numbers.{same-or-not}
+use Rattle.laws.proofs.Numbers.{same-or-not, less-or-not}
 use Rattle.columns.specs.Laws.{stored, kept-entry, kept-column, length-store}
 
 -- ---- the entries from `from` up to e of column c at 0, all others as they were
@@ -126,3 +127,30 @@ all-zero {w} {k} l h = ext-getD 0 w (zeros k) (l ∙ sym (zeros-length k)) (λ i
 pub zeros-cell : (k m c i : ℕ) → cell (zeros k) m c i ≡ 0
 unfolding cell
 zeros-cell k m c i = zeros-at k (c * m + i)
+
+pub cells-zero : {w : List ℕ} {m : ℕ} → length w ≡ COLUMNS * m → ((c y : ℕ) → c < COLUMNS → y < m → cell w m c y ≡ 0) → w ≡ zeros (COLUMNS * m)
+unfolding cell
+cells-zero {w} {m} size h = all-zero size at
+  where
+    at : (i : ℕ) → i < COLUMNS * m → getD w i 0 ≡ 0
+    at i l =
+        let some : 0 < m = omega (arith, l) in
+        let c : i / m < COLUMNS = div-lt-iff-lt-mul some .1 l in
+        rw (← div-add-mod' i m) (h (i / m) (i % m) c (mod-lt i some))
+
+-- what is 0 stays so when more is wiped
+pub wiped-still : {m c from e : ℕ} {w w′ : List ℕ} (d y : ℕ) → Wiped m c from e w w′ → y < m → cell w m d y ≡ 0 → cell w′ m d y ≡ 0
+wiped-still {m} {c} {from} {e} {w} {w′} d y W l z = go (same-or-not d c) (less-or-not y from) (less-or-not y e)
+  where
+    go : (d ≡ c) ⊎ (d ≢ c) → (y < from) ⊎ (from ≤ y) → (y < e) ⊎ (e ≤ y) → cell w′ m d y ≡ 0
+    go (inr n) a b = W .others d y n l ∙ z
+    go (inl q) (inl a) b = rw q (W .before y a) ∙ z
+    go (inl q) (inr a) (inl b) = rw q (W .zero y a b)
+    go (inl q) (inr a) (inr b) = rw q (W .after y b) ∙ z
+
+pub wiping-still : {m c : ℕ} {w w′ : List ℕ} (d y : ℕ) → Wiping m c m w w′ → y < m → cell w m d y ≡ 0 → cell w′ m d y ≡ 0
+wiping-still {m} {c} {w} {w′} d y W l z = go (same-or-not d c)
+  where
+    go : (d ≡ c) ⊎ (d ≢ c) → cell w′ m d y ≡ 0
+    go (inr n) = W .others d y n l ∙ z
+    go (inl q) = rw q (W .zero y l)
