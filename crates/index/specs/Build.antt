@@ -10,6 +10,7 @@ use borrow.Author.Tests.{lt-ltb, le-ltb, eq-eqb, ne-eqb}
 use Rattle.truss.specs.Limits.{maxLinks}
 use Rattle.truss.specs.Graph.{Pair, graphOf}
 use Rattle.truss.specs.Refusal.{Refusal, Checked, passed, refused, refuse, andThen, mapPassed}
+use Rattle.truss.specs.Record.{kindHead}
 use Rattle.truss.specs.LinksFile.{Links, accepted, readHead, readPairs, readLinks}
 use Rattle.truss.specs.Index.{encode, indexBytes}
 use Rattle.truss.specs.Call.{Reply, Written, done, notDone, write, checkRoom, build}
@@ -79,11 +80,11 @@ module _ {n m joins groups len : ℕ} {ps : List Pair} {w : List ℕ} (out : Lis
 -- ---- the whole build, by what the head and the records say
 
 module _ (b out : List ℕ) where
-  pub head-refused : {number : ℕ} {r : CReply} → refuse number 0 ≡ readHead b → Replies r number 0 → replied r out ≡ build b out
+  pub head-refused : {number : ℕ} {r : CReply} → refuse number 0 ≡ readHead kindHead b → Replies r number 0 → replied r out ≡ build b out
   unfolding build readLinks andThen mapPassed checkRoom write
   head-refused {number} q R = reply-with out R ∙ rw (← q, andThen, mapPassed, checkRoom, write) refl
 
-  module _ (n m : ℕ) (head : readHead b ≡ passed (record { n = n; m = m })) where
+  module _ (n m : ℕ) (head : readHead kindHead b ≡ passed (record { n = n; m = m })) where
     links-are : readLinks b ≡ readPairs b n m 5 []
     unfolding readLinks andThen
     links-are = rw (head, andThen) refl
@@ -126,5 +127,5 @@ module _ (b out : List ℕ) where
     solve-asks {ps} h N = record { accepted = read-named b n ps (links-are ∙ h); named = N }
 
 -- a head that passes names few links
-pub few-of : (b : List ℕ) (n m : ℕ) → readHead b ≡ passed (record { n = n; m = m }) → m ≤ maxLinks
-few-of b n m h = head-good b (record { n = n; m = m }) h .links
+pub few-of : (b : List ℕ) (n m : ℕ) → readHead kindHead b ≡ passed (record { n = n; m = m }) → m ≤ maxLinks
+few-of b n m h = head-good kindHead b (record { n = n; m = m }) h .links

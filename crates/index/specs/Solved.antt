@@ -36,9 +36,18 @@ pub record SolveAsks (n m : ℕ) (ps : List Pair) (w : List ℕ) : Type 0 where
   pub accepted : Accepted n ps
   pub named : Named (graphOf n ps) m n w
 
+-- all that is no result is 0
+pub record Blank (m joins groups : ℕ) (w : List ℕ) : Type 0 where
+  pub joins-end : (d i : ℕ) → 9 ≤ d → d < 11 → joins ≤ i → i < m → cell w m d i ≡ 0
+  pub groups-end : (d g : ℕ) → 11 ≤ d → d < 14 → groups ≤ g → g < m → cell w m d g ≡ 0
+  pub low : (d i : ℕ) → 1 ≤ d → d < 4 → i < m → cell w m d i ≡ 0
+  pub middle : (d i : ℕ) → 5 ≤ d → d < 8 → i < m → cell w m d i ≡ 0
+  pub high : (d i : ℕ) → 14 ≤ d → d < 16 → i < m → cell w m d i ≡ 0
+
 pub record Solved (n m joins groups : ℕ) (ps : List Pair) (w : List ℕ) : Type 0 where
   pub index-is : indexIn w n m joins groups ≡ index (graphOf n ps)
   pub writes : Writes w m joins groups
+  pub blank : Blank m joins groups w
 
 abbrev pub SolveGiven : ℕ → ℕ → List ℕ → Type 0
 SolveGiven n m w = (ps : List Pair) × SolveAsks n m ps w
@@ -159,4 +168,5 @@ module _ {n m : ℕ} {ps : List Pair} {w : List ℕ} (P : SolveAsks n m ps w) wh
         weights = λ q l. let e = ap (λ (x : Join). x .weight) (join-is q l) in rw e (small .joins-small (forestJoin G q) (getD-in _ (forest G) q (omega (arith, T .joins))));
         group-strengths = λ g l. let e = ap (λ (x : GroupRow). x .strength) (group-is g l) in rw e (small .groups-small (groupRowAt (index G) g) (getD-in _ (index G .groups) g (omega (arith, T .groups, group-rows-length G proper few-links))));
       };
+      blank = record { joins-end = T .joins-end; groups-end = T .groups-end; low = T .low; middle = T .middle; high = T .high };
     }

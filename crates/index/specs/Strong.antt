@@ -28,7 +28,7 @@ use Rattle.laws.proofs.Accepted.{graph-size, graph-proper}
 use Rattle.laws.proofs.Accepted.{Named as Accepted}
 use Rattle.laws.proofs.InOrder.{graph-in-order}
 use Rattle.wire.specs.Writing.{upTo, upTo-rows, upTo-length}
-use Rattle.indexfile.specs.Comparing.{row-byte}
+use Rattle.wire.specs.RowBytes.{row-byte}
 
 -- the place of strong link i, and its key
 abbrev pub strongPlace : ℕ → ℕ
@@ -161,12 +161,12 @@ module _ (n : ℕ) (ps : List Pair) (accepted : Accepted n ps) where
           go (inr (c, d)) = omega (arith, c, d, first-is i li, second-is i li, first-is j q, second-is j q)
 
   -- the head of an index
-  pub index-head : readHead (indexBytes G) ≡ passed (record { n = n; m = m })
+  pub index-head : readHead kindIndexHead (indexBytes G) ≡ passed (record { n = n; m = m })
   unfolding readHead indexBytes encode index graphOf bodyLength holdsBody
   index-head =
       rw (is-head, is-n, is-m, ne-eqb n 0 (omega (arith, accepted .some-account)), le-ltb maxAccounts n (accepted .accounts), le-ltb maxLinks m (accepted .links)) refl
     where
-      is-head : whole (indexBytes G) 0 kindHead ≡ true
+      is-head : whole (indexBytes G) 0 kindIndexHead ≡ true
       is-head = le-leb 5 (length (indexBytes G)) (omega arith)
 
       is-n : fieldAt (indexBytes G) 1 ≡ n

@@ -9,7 +9,7 @@ use Rattle.truss.specs.Lists.{range}
 use Rattle.truss.specs.Forest.{Join}
 use Rattle.truss.specs.Record.{kindIndexHead, headBytes, endBytes}
 use Rattle.truss.specs.Index.{LinkRow, GroupRow, Index, linkBytes, joinBytes, groupBytes, encode}
-use Rattle.columns.specs.Columns.{cell}
+use Rattle.columns.specs.Columns.{cell, COLUMNS}
 use Rattle.wire.specs.Writing.{upTo, upTo-rows}
 
 abbrev pub rowIn : List ℕ → ℕ → ℕ → LinkRow
@@ -44,9 +44,13 @@ index-parts w n m joins groups =
     rw (← upTo-rows linkBytes (rowIn w m) m, ← upTo-rows joinBytes (joinIn w m) joins, ← upTo-rows groupBytes (groupIn w m) groups)
     (sym (simp append-assoc))
 
+-- where the groups stand
+abbrev pub groupsFrom : ℕ → ℕ → ℕ
+groupsFrom m joins = 5 + 8 * m + 6 * joins
+
 -- what a writer asks: strengths and weights are bytes, and there is no more of anything than links
 pub record Writes (w : List ℕ) (m joins groups : ℕ) : Type 0 where
-  pub size : length w ≡ 16 * m
+  pub size : length w ≡ COLUMNS * m
   pub few : m ≤ 65535
   pub few-joins : joins ≤ m
   pub few-groups : groups ≤ m
@@ -56,7 +60,7 @@ pub record Writes (w : List ℕ) (m joins groups : ℕ) : Type 0 where
 
 -- the same for one part: so many entries, no more than links, and those of the strength's column are bytes
 pub record PartGiven (c m count : ℕ) (w : List ℕ) : Type 0 where
-  pub size : length w ≡ 16 * m
+  pub size : length w ≡ COLUMNS * m
   pub few : m ≤ 65535
   pub part : count ≤ m
   pub small : (i : ℕ) → i < count → cell w m c i < 256

@@ -3,9 +3,9 @@ ghost use mathlib.Core.Path.{_≡_};
 ghost use Prim.Native.Nat.{_+_, _*_, _<_, _≤_};
 ghost use lib.ListN.{length, take};
 ghost use Rattle.truss.specs.Index.{encode};
-ghost use Rattle.columns.specs.Columns.{cell};
+ghost use Rattle.columns.specs.Columns.{cell, COLUMNS};
 ghost use Rattle.wire.specs.Writing.{Tells, upTo, written};
-ghost use Rattle.indexfile.specs.Rows.{GroupGiven, JoinGiven, LinkGiven, Writes, groupRecord, indexIn, joinRecord, linkRecord};
+ghost use Rattle.indexfile.specs.Rows.{GroupGiven, JoinGiven, LinkGiven, Writes, groupRecord, groupsFrom, indexIn, joinRecord, linkRecord};
 use columns::GROUP_LEAST;
 use columns::GROUP_PARENT;
 use columns::GROUP_STRENGTH;
@@ -17,7 +17,7 @@ use columns::OWN_GROUP;
 use columns::STRENGTH;
 use columns::get;
 use wire::END;
-use wire::HEAD;
+use wire::INDEX_HEAD;
 use wire::group_record;
 use wire::head_record;
 use wire::join_record;
@@ -35,9 +35,18 @@ pub fn index_length(m: usize, joins: usize, groups: usize) -> usize
     6 + m * 8 + joins * 6 + groups * 6
 }
 
+// Where the groups of an index of so many links and joins stand.
+pub fn groups_place(m: usize, joins: usize) -> usize
+    requires { ⌜ m ≤ 65535 ⌝ }
+    requires { ⌜ joins ≤ 65535 ⌝ }
+    ensures { λ r. ⌜ r ≡ groupsFrom m joins ⌝ }
+{
+    5 + 8 * m + 6 * joins
+}
+
 // Link i as its record.
 fn link_in(w: &[u32], m: usize, i: usize) -> [u8; 8]
-    requires { ⌜ length (now w) ≡ 16 * m ⌝ }
+    requires { ⌜ length (now w) ≡ COLUMNS * m ⌝ }
     requires { ⌜ i < m ⌝ }
     requires { ⌜ cell (now w) m 4 i < 256 ⌝ }
     ensures { λ r. ⌜ r ≡ linkRecord (now (w .entry)) m i ⌝ }
@@ -85,7 +94,7 @@ fn same_links(s: &[u8], w: &[u32], m: usize) -> bool
 
 // Join i as its record.
 fn join_in(w: &[u32], m: usize, i: usize) -> [u8; 6]
-    requires { ⌜ length (now w) ≡ 16 * m ⌝ }
+    requires { ⌜ length (now w) ≡ COLUMNS * m ⌝ }
     requires { ⌜ i < m ⌝ }
     requires { ⌜ cell (now w) m 10 i < 256 ⌝ }
     ensures { λ r. ⌜ r ≡ joinRecord (now (w .entry)) m i ⌝ }
@@ -132,7 +141,7 @@ fn same_joins(s: &[u8], w: &[u32], m: usize, joins: usize) -> bool
 
 // Group i as its record.
 fn group_in(w: &[u32], m: usize, i: usize) -> [u8; 6]
-    requires { ⌜ length (now w) ≡ 16 * m ⌝ }
+    requires { ⌜ length (now w) ≡ COLUMNS * m ⌝ }
     requires { ⌜ i < m ⌝ }
     requires { ⌜ cell (now w) m 11 i < 256 ⌝ }
     ensures { λ r. ⌜ r ≡ groupRecord (now (w .entry)) m i ⌝ }
@@ -184,7 +193,7 @@ pub fn write_index(out: &mut [u8], w: &[u32], n: usize, m: usize, joins: usize, 
     requires { ⌜ 6 + m * 8 + joins * 6 + groups * 6 ≤ length (now out) ⌝ }
     ensures { λ _. ⌜ now (out .exit) ≡ written (now (out .entry)) 0 (encode (indexIn (now (w .entry)) n m joins groups)) ⌝ }
 {
-    let head = head_record(HEAD, n, m);
+    let head = head_record(INDEX_HEAD, n, m);
     paste(out, &head);
     write_links(&mut out[5..], w, m);
     let a = 5 + m * 8;
@@ -203,7 +212,7 @@ pub fn same_index(s: &[u8], w: &[u32], n: usize, m: usize, joins: usize, groups:
     if s.len() != index_length(m, joins, groups) {
         return false;
     }
-    let head = head_record(HEAD, n, m);
+    let head = head_record(INDEX_HEAD, n, m);
     if !stands(s, &head) {
         return false;
     }

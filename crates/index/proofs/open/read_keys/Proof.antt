@@ -1,12 +1,12 @@
--- `index::read_keys` meets its contract. Assumes nothing.
+-- `index::open::read_keys` meets its contract. Assumes nothing.
 use Prim.Native.Nat.{_-_}
 use mathlib.Core.Path.{_≡_, refl}
 use native.Mathlib.Omega.{arith}
 use lib.ListN.{length}
-use Rattle.index.specs.Read.{KeysSoFar, keys-none, keys-more, keys-not, keys-all, keys-failed, next-none, next-is, follows-small}
+use Rattle.index.specs.Open.{KeysSoFar, keys-none, keys-more, keys-not, keys-all, keys-failed, next-none, next-is, follows-small}
 use borrow.Author.Needs.{needs}
-use Rattle.index.proofs.read_keys.Statement.{statement}
-use Rattle.index.proofs.read_keys.Tie as tie
+use Rattle.index.proofs.open.read_keys.Statement.{statement}
+use Rattle.index.proofs.open.read_keys.Tie as tie
 
 abbrev Inv-loop : tie.InvT-loop
 Inv-loop s n m w₀ last₀ i₀ w last i = (length w ≡ length w₀) × KeysSoFar s n m i last w

@@ -1,8 +1,8 @@
--- `index::solve` meets its contract. Assumes nothing.
+-- `index::solve::solve` meets its contract. Assumes nothing.
 use Rattle.index.specs.Solved.{given, solved}
 use borrow.Author.Needs.{needs}
-use Rattle.index.proofs.solve.Statement.{statement}
-use Rattle.index.proofs.solve.Tie as tie
+use Rattle.index.proofs.solve.solve.Statement.{statement}
+use Rattle.index.proofs.solve.solve.Tie as tie
 
 strengths-requires : tie.Need-strengths-requires
 strengths-requires c κs = (_, c .before .before .pre .1 .named)

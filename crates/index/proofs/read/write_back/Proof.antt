@@ -1,4 +1,4 @@
--- `index::write_back` meets its contract. Assumes nothing.
+-- `index::read::write_back` meets its contract. Assumes nothing.
 use Prim.Native.Nat.{ℕ, _+_, _*_, _-_}
 use mathlib.Core.Path.{refl, ap, _∙_}
 use mathlib.Core.List.{List, _++_}
@@ -8,8 +8,8 @@ use Rattle.wire.specs.Writing.{written, written-next, upTo, upTo-length}
 use Rattle.truss.specs.Record.{headBytes, kindHead}
 use Rattle.index.specs.Read.{backBytes}
 use borrow.Author.Needs.{needs}
-use Rattle.index.proofs.write_back.Statement.{statement}
-use Rattle.index.proofs.write_back.Tie as tie
+use Rattle.index.proofs.read.write_back.Statement.{statement}
+use Rattle.index.proofs.read.write_back.Tie as tie
 
 head-record-requires : tie.Need-head-record-requires
 head-record-requires c κs = search needs

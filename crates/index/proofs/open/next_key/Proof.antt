@@ -1,11 +1,11 @@
--- `index::next_key` meets its contract. Assumes nothing.
+-- `index::open::next_key` meets its contract. Assumes nothing.
 use mathlib.Core.Path.{sym, _∙_}
 use native.Mathlib.Omega.{arith}
-use Rattle.index.specs.Read.{whole-strong, next-not, next-turned, next-above, next-before, next-found}
+use Rattle.index.specs.Open.{whole-strong, next-not, next-turned, next-above, next-before, next-found}
 use Rattle.wire.specs.Writing.{turned-true, turned-false}
 use borrow.Author.Needs.{needs}
-use Rattle.index.proofs.next_key.Statement.{statement}
-use Rattle.index.proofs.next_key.Tie as tie
+use Rattle.index.proofs.open.next_key.Statement.{statement}
+use Rattle.index.proofs.open.next_key.Tie as tie
 
 whole-record-requires : tie.Need-whole-record-requires
 whole-record-requires c κs = search needs

@@ -1,7 +1,7 @@
--- `index::found` meets its contract. Assumes nothing.
-use Rattle.index.specs.Read.{openingOf}
-use Rattle.index.proofs.found.Statement.{statement}
-use Rattle.index.proofs.found.Tie as tie
+-- `index::open::found` meets its contract. Assumes nothing.
+use Rattle.index.specs.Open.{openingOf}
+use Rattle.index.proofs.open.found.Statement.{statement}
+use Rattle.index.proofs.open.found.Tie as tie
 
 returns : tie.Need-returns
 unfolding openingOf

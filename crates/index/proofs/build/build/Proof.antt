@@ -1,16 +1,17 @@
--- `index::read` meets its contract. Assumes nothing.
-use mathlib.Core.Path.{sym, ap, _∙_}
-use native.Mathlib.Omega.{arith}
-use lib.Seq.{length-take-le}
+-- `index::build::build` meets its contract. Assumes nothing.
+use Rattle.index.specs.Build.{head-refused, few-of}
+use Rattle.truss.specs.Record.{bodyLength}
 use Rattle.linksfile.specs.Answers.{headOf}
-use Rattle.index.specs.Read.{no-head, read-refused}
-use Rattle.index.specs.Build.{few-of}
+use lib.Seq.{length-take-le}
+use native.Mathlib.Omega.{arith}
+use mathlib.Core.Path.{refl, sym, ap, _∙_}
 use borrow.Author.Needs.{needs}
-use Rattle.index.proofs.read.Statement.{statement}
-use Rattle.index.proofs.read.Tie as tie
+use Rattle.index.proofs.build.build.Statement.{statement}
+use Rattle.index.proofs.build.build.Tie as tie
 
 read-head-requires : tie.Need-read-head-requires
-read-head-requires c κs = search needs
+unfolding bodyLength
+read-head-requires c κs = refl
 
 enum-known-number : tie.Need-enum-known-number
 enum-known-number c = search needs
@@ -32,19 +33,19 @@ array-borrow-prefix-work : tie.Need-array-borrow-prefix-work
 unfolding headOf
 array-borrow-prefix-work c = omega (arith, few-of _ _ _ (sym (c .before .before .before .before .before .read-head .ensures) ∙ ap headOf (c .before .before .before .n .given .1)))
 
-slice-aggregate-read-in : tie.Need-slice-aggregate-read-in
+slice-aggregate-build-in : tie.Need-slice-aggregate-build-in
 unfolding headOf
-slice-aggregate-read-in c = sym (length-take-le _ _ (omega (arith, few-of _ _ _ (sym (c .before .before .before .before .before .before .read-head .ensures) ∙ ap headOf (c .before .before .before .before .n .given .1)))))
+slice-aggregate-build-in c = sym (length-take-le _ _ (omega (arith, few-of _ _ _ (sym (c .before .before .before .before .before .before .read-head .ensures) ∙ ap headOf (c .before .before .before .before .n .given .1)))))
 
-read-in-requires : tie.Need-read-in-requires
+build-in-requires : tie.Need-build-in-requires
 unfolding headOf
-read-in-requires c κs =
+build-in-requires c κs =
     let h = sym (c .before .before .before .before .before .before .read-head .ensures) ∙ ap headOf (c .before .before .before .before .n .given .1) in
     record { head = h; size = length-take-le _ _ (omega (arith, few-of _ _ _ h)) }
 
 returns : tie.Need-returns
 unfolding headOf
-returns c = read-refused (c .before .before .before .before .before .before .before .args .index .now) (c .before .before .before .before .before .before .before .args .out .now) (no-head (c .before .before .before .before .before .before .before .args .index .now) _ (sym (ap headOf (c .before .before .number .given .1)) ∙ c .before .before .before .before .read-head .ensures)) (c .answered .ensures)
+returns c = head-refused (c .before .before .before .before .before .before .before .args .links .now) (c .before .before .before .before .before .before .before .args .out .now) (sym (ap headOf (c .before .before .number .given .1)) ∙ c .before .before .before .before .read-head .ensures) (c .answered .ensures)
 
 same-length : tie.Need-same-length
 same-length c = search needs
@@ -52,8 +53,8 @@ same-length c = search needs
 returns-2 : tie.Need-returns-2
 returns-2 c = search needs
 
-pub read-spec : {M : Type 1} → statement M
-read-spec =
+pub build-spec : {M : Type 1} → statement M
+build-spec =
     tie.close
     (tie.spec
     read-head-requires
@@ -63,8 +64,8 @@ read-spec =
     room-requires
     mul-size
     array-borrow-prefix-work
-    slice-aggregate-read-in
-    read-in-requires
+    slice-aggregate-build-in
+    build-in-requires
     returns
     same-length
     returns-2)

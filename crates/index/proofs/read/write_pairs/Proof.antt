@@ -1,4 +1,4 @@
--- `index::write_pairs` meets its contract. Assumes nothing.
+-- `index::read::write_pairs` meets its contract. Assumes nothing.
 use Prim.Native.Nat.{ℕ, _*_, _-_, _≤_}
 use mathlib.Core.Path.{_≡_, refl, ap, _∙_}
 use native.Mathlib.Omega.{arith}
@@ -7,8 +7,8 @@ use Rattle.truss.specs.LinksFile.{pairBytes}
 use Rattle.wire.specs.Writing.{written, written-none, written-next, upTo, upTo-more, upTo-length}
 use Rattle.index.specs.Read.{backBytes}
 use borrow.Author.Needs.{needs}
-use Rattle.index.proofs.write_pairs.Statement.{statement}
-use Rattle.index.proofs.write_pairs.Tie as tie
+use Rattle.index.proofs.read.write_pairs.Statement.{statement}
+use Rattle.index.proofs.read.write_pairs.Tie as tie
 
 abbrev Inv-loop : tie.InvT-loop
 Inv-loop out₀ s m i₀ at₀ out i at = (i ≤ m) × (at ≡ i * 5) × (out ≡ written out₀ 0 (upTo (backBytes s) i)) × (length out ≡ length out₀)

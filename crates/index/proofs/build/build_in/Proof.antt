@@ -1,8 +1,8 @@
--- `index::build_in` meets its contract. Assumes nothing.
+-- `index::build::build_in` meets its contract. Assumes nothing.
 use Rattle.index.specs.Build.{records-refused, records-good, build-finished, solve-asks}
 use borrow.Author.Needs.{needs}
-use Rattle.index.proofs.build_in.Statement.{statement}
-use Rattle.index.proofs.build_in.Tie as tie
+use Rattle.index.proofs.build.build_in.Statement.{statement}
+use Rattle.index.proofs.build.build_in.Tie as tie
 
 load-requires : tie.Need-load-requires
 load-requires c κs = search needs

@@ -1,9 +1,9 @@
--- `index::finish` meets its contract. Assumes nothing.
+-- `index::build::finish` meets its contract. Assumes nothing.
 use Rattle.index.specs.Build.{no-room, wrote}
 use native.Mathlib.Omega.{arith}
 use borrow.Author.Needs.{needs}
-use Rattle.index.proofs.finish.Statement.{statement}
-use Rattle.index.proofs.finish.Tie as tie
+use Rattle.index.proofs.build.finish.Statement.{statement}
+use Rattle.index.proofs.build.finish.Tie as tie
 
 solve-requires : tie.Need-solve-requires
 solve-requires c κs = search needs
