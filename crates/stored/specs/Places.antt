@@ -13,7 +13,7 @@ use Rattle.laws.proofs.Members.{range-length}
 use Rattle.laws.proofs.Sets.{map-range-at}
 use Rattle.laws.proofs.Decoding.{field-back}
 use Rattle.wire.specs.Writing.{upTo, upTo-rows, upTo-length}
-use Rattle.indexfile.specs.Comparing.{row-byte}
+use Rattle.wire.specs.RowBytes.{row-byte}
 
 -- a list by its numbers
 by-numbers : {A : Type 0} (d : A) (xs : List A) → xs ≡ map (λ (i : ℕ). getD xs i d) (range 0 (length xs))

@@ -8,18 +8,21 @@ use native.Mathlib.Omega.{arith}
 use lib.Dec.{leb, ltb}
 use lib.ListN.{length, getD, length-map}
 use borrow.Author.Tests.{leb-true, leb-false, ltb-true}
-use Rattle.truss.specs.Limits.{minLevel, noGroup, maxAccounts, maxLinks}
+use Rattle.truss.specs.Limits.{minStrength, maxStrength, minLevel, noGroup, maxAccounts, maxLinks}
 use Rattle.truss.specs.Lists.{position, range}
-use Rattle.truss.specs.Graph.{Graph, graphOf, linkAt}
+use Rattle.truss.specs.Graph.{Graph, graphOf, link, linkAt}
 use Rattle.truss.specs.Strength.{strength}
 use Rattle.truss.specs.Group.{Group, leastLink, groupNumber, groups, groupOf, parent}
 use Rattle.truss.specs.Refusal.{passed}
-use Rattle.truss.specs.Record.{byteAt, fieldAt}
+use Rattle.truss.specs.Record.{kindIndexHead, byteAt, fieldAt}
 use Rattle.truss.specs.Index.{Index, LinkRow, GroupRow, linkRow, groupRow, index, indexBytes, encode}
 use Rattle.truss.specs.IndexFile.{readIndex}
 use Rattle.truss.specs.Stored.{rowAt, groupRowAt}
 use Rattle.laws.proofs.Lists.{test}
-use Rattle.laws.proofs.Members.{getD-in, range-length}
+use Rattle.laws.proofs.Members.{getD-in, in-member, range-length}
+use Rattle.laws.proofs.Peeling.{strength-at-least-2}
+use Rattle.laws.proofs.Bound.{strength-max}
+use Rattle.laws.proofs.InOrder.{graph-distinct}
 use Rattle.laws.proofs.Proper.{Proper}
 use Rattle.laws.proofs.Groups.{size, strengthAt}
 use Rattle.laws.proofs.Stored.{groupCount, stored, few-groups}
@@ -29,7 +32,8 @@ use Rattle.laws.proofs.Accepted.{graph-size, graph-proper, head-good}
 use Rattle.laws.proofs.Accepted.{Named as Accepted}
 use Rattle.laws.proofs.Agree.{index-fits}
 use Rattle.index.specs.Strong.{strongPair}
-use Rattle.index.specs.Read.{pairsIn, pairs-accepted, takes, Opened}
+use Rattle.index.specs.declared.open.Outline.{Outline}
+use Rattle.index.specs.Open.{pairsIn, pairs-accepted, takes, Opened}
 use Rattle.stored.specs.Places.{groupsPlace, encode-length, link-byte, group-byte, field-of}
 
 -- ---- the graph
@@ -68,6 +72,10 @@ pub record Shape (b : List ℕ) (n m at count : ℕ) : Type 0 where
   pub links : size (graphIn b) ≡ m
   pub groups : groupCount (graphIn b) ≡ count
 
+-- what is known of it, as it was opened
+abbrev pub Outlined : List ℕ → Outline → Type 0
+Outlined b o = Shape b (o .n) (o .m) (o .at) (o .groups)
+
 pub shape-sized : {b : List ℕ} {n m at count : ℕ} → Shape b n m at count → Sized b at m count
 shape-sized S = record { groups-at = S .groups-at; links = S .links; groups = S .groups }
 
@@ -93,6 +101,13 @@ module _ {b : List ℕ} (I : IsIndex b) where
   pub few-accounts : G .n ≤ maxAccounts
   unfolding graphOf
   few-accounts = I .accepted .accounts
+
+  -- what it says of a link's strength is a strength
+  pub strength-range : (i : ℕ) → i < size G → (minStrength ≤ strengthAt G i) × (strengthAt G i ≤ maxStrength)
+  strength-range i l =
+      let m = in-member (G .links) (getD-in (link 0 0) (G .links) i l) in
+      let d = graph-distinct (fieldAt b 1) (pairsIn b (fieldAt b 3)) (I .accepted .good) in
+      (strength-at-least-2 G (linkAt G i) m, strength-max G proper d few-links (linkAt G i) m)
 
   pub fits-groups : size G ≤ noGroup
   fits-groups = omega (arith, few-links)
@@ -212,12 +227,12 @@ module _ {b : List ℕ} (I : IsIndex b) where
     parent-cases = rw (ap (λ (r : GroupRow). r .parent) group-row-is) (number-cases _ (groups G))
 
 -- an index that was opened
-module _ {b : List ℕ} {n m joins count : ℕ} (O : Opened b n m joins count) where
+module _ {b : List ℕ} {n m at count : ℕ} (O : Opened b n m at count) where
   is-n : n ≡ fieldAt b 1
-  is-n = head-good b (record { n = n; m = m }) (O .head) .is-n
+  is-n = head-good kindIndexHead b (record { n = n; m = m }) (O .head) .is-n
 
   is-m : m ≡ fieldAt b 3
-  is-m = head-good b (record { n = n; m = m }) (O .head) .is-m
+  is-m = head-good kindIndexHead b (record { n = n; m = m }) (O .head) .is-m
 
   same : graphOf n (pairsIn b m) ≡ graphIn b
   same = ap₂ (λ (x y : ℕ). graphOf x (pairsIn b y)) is-n is-m
@@ -231,15 +246,15 @@ module _ {b : List ℕ} {n m joins count : ℕ} (O : Opened b n m joins count) w
   pub opened-graph : readIndex b ≡ passed (graphIn b)
   opened-graph = takes b n m (O .head) (O .strong) (O .bytes) ∙ ap {B = Rattle.truss.specs.Refusal.Checked Graph} (λ x. passed x) same
 
-  pub opened-shape : Shape b n m (5 + 8 * m + 6 * joins) count
+  pub opened-shape : Shape b n m at count
   unfolding graphOf
   opened-shape =
       let I = opened-index in
-      let j : joins ≡ length (index (graphIn b) .joins) = O .joins-are ∙ ap (λ (x : Graph). length (index x .joins)) same in
+      let j : length (index (graphOf n (pairsIn b m)) .joins) ≡ length (index (graphIn b) .joins) = ap (λ (x : Graph). length (index x .joins)) same in
       let k : count ≡ length (index (graphIn b) .groups) = O .groups-are ∙ ap (λ (x : Graph). length (index x .groups)) same in
       let s : size (graphIn b) ≡ m = graph-size (fieldAt b 1) (pairsIn b (fieldAt b 3)) ∙ length-map (range 0 (fieldAt b 3)) (strongPair b) ∙ range-length 0 (fieldAt b 3) ∙ sym is-m in
       record {
-        groups-at = record { is-index = I; place = omega (arith, j, s, rows-length (graphIn b) (proper I) (fits-groups I)) };
+        groups-at = record { is-index = I; place = omega (arith, O .place, j, s, rows-length (graphIn b) (proper I) (fits-groups I)) };
         accounts = sym is-n;
         links = s;
         groups = sym (k ∙ group-rows-length (graphIn b) (proper I) (fits-groups I));

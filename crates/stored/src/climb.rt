@@ -14,7 +14,7 @@ use crate::rows::link_strength;
 use limits::NO_GROUP;
 
 // From group g, whose strength is at least k, up to the group at k. Numbers rise at each step.
-pub fn climb(s: &[u8], at: usize, count: usize, k: usize, g: usize) -> usize
+fn climb(s: &[u8], at: usize, count: usize, k: usize, g: usize) -> usize
     requires { ⌜ ClimbAsks (now s) at count k g ⌝ }
     ensures { λ r. ⌜ Climbed (graphIn (now (s .entry))) k g r ⌝ }
 {

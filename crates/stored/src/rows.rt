@@ -31,7 +31,7 @@ pub fn link_higher(s: &[u8], i: usize) -> usize
 pub fn link_strength(s: &[u8], i: usize) -> usize
     requires { ⌜ IsIndex (now s) ⌝ }
     requires { ⌜ i < size (graphIn (now s)) ⌝ }
-    ensures { λ r. ⌜ (r ≡ strengthAt (graphIn (now (s .entry))) i) × (r < 256) ⌝ }
+    ensures { λ r. ⌜ (r ≡ strengthAt (graphIn (now (s .entry))) i) × (r < 65536) ⌝ }
 {
     wide(s[5 + 8 * i + 5])
 }
@@ -58,7 +58,7 @@ pub fn group_parent(s: &[u8], at: usize, g: usize) -> usize
 pub fn group_strength(s: &[u8], at: usize, g: usize) -> usize
     requires { ⌜ GroupsAt (now s) at ⌝ }
     requires { ⌜ g < groupCount (graphIn (now s)) ⌝ }
-    ensures { λ r. ⌜ (r ≡ stored (graphIn (now (s .entry))) g .strength) × (r < 256) ⌝ }
+    ensures { λ r. ⌜ (r ≡ stored (graphIn (now (s .entry))) g .strength) × (r < 65536) ⌝ }
 {
     wide(s[at + 6 * g + 3])
 }

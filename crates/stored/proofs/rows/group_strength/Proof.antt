@@ -24,7 +24,7 @@ wide-requires : tie.Need-wide-requires
 wide-requires c κs = search needs
 
 returns : tie.Need-returns
-returns c = (c .wide .ensures .0 ∙ ap (λ (x : ℕ). byteAt (c .before .before .before .args .s .now) (x + 6 * c .before .before .before .args .g + 3)) (c .before .before .before .pre .0 .place) ∙ group-strength-is (c .before .before .before .pre .0 .is-index) (c .before .before .before .args .g) (c .before .before .before .pre .1), c .wide .ensures .1)
+returns c = (c .wide .ensures .0 ∙ ap (λ (x : ℕ). byteAt (c .before .before .before .args .s .now) (x + 6 * c .before .before .before .args .g + 3)) (c .before .before .before .pre .0 .place) ∙ group-strength-is (c .before .before .before .pre .0 .is-index) (c .before .before .before .args .g) (c .before .before .before .pre .1), omega (arith, c .wide .ensures .1))
 
 pub group-strength-spec : {M : Type 1} → statement M
 group-strength-spec =

@@ -22,7 +22,7 @@ wide-requires : tie.Need-wide-requires
 wide-requires c κs = search needs
 
 returns : tie.Need-returns
-returns c = (c .wide .ensures .0 ∙ strength-is (c .before .before .before .pre .0) (c .before .before .before .args .i) (c .before .before .before .pre .1), c .wide .ensures .1)
+returns c = (c .wide .ensures .0 ∙ strength-is (c .before .before .before .pre .0) (c .before .before .before .args .i) (c .before .before .before .pre .1), omega (arith, c .wide .ensures .1))
 
 pub link-strength-spec : {M : Type 1} → statement M
 link-strength-spec =
