@@ -3,39 +3,27 @@ ghost use mathlib.Core.Path.{_≡_};
 ghost use Prim.Native.Nat.{_+_, _*_, _<_, _≤_};
 ghost use lib.ListN.{length};
 ghost use Rattle.truss.specs.Limits.{maxAccounts, maxLinks};
+ghost use Rattle.columns.specs.Columns.{COLUMNS};
+ghost use Rattle.columns.specs.Wiping.{zeros};
 ghost use Rattle.stored.specs.Rows.{Sized};
-ghost use Rattle.holding.specs.Turns.{Clear, HoldAsks, HoldGives, LiftAll, LiftGives, LiftOne, Marked, MarkGiven, MeetAll, MeetOne, Meets, OwnMarks};
+ghost use Rattle.holding.specs.Turns.{HoldAsks, HoldGives, LiftAll, LiftGives, LiftOne, Marked, MarkGiven, MeetAll, MeetOne, Meets, OwnMarks};
 use crate::ranks::rank_named;
 use columns::account_room;
 use columns::get;
 use columns::put;
 use columns::wipe_range;
+use index::open::Outline;
 use limits::NO_GROUP;
 use stored::rows::group_parent;
 use stored::rows::link_group;
 use stored::rows::link_higher;
 use stored::rows::link_lower;
 
-// No marks at the first count entries of the first d columns.
-fn clear(w: &mut [u32], m: usize, d: usize, count: usize)
-    requires { ⌜ length (now w) ≡ 16 * m ⌝ }
-    requires { ⌜ d ≤ 16 ⌝ }
-    requires { ⌜ count ≤ m ⌝ }
-    requires { ⌜ m ≤ maxLinks ⌝ }
-    ensures { λ _. ⌜ Clear m d count (now (w .exit)) ⌝ }
-{
-    let mut c: usize = 0;
-    while c < d {
-        wipe_range(w, m, c, 0, count);
-        c += 1;
-    }
-}
-
 // Group g is marked for the account of rank r, if it has one.
 fn mark(w: &mut [u32], m: usize, g: usize, r: usize)
-    requires { ⌜ length (now w) ≡ 16 * m ⌝ }
+    requires { ⌜ length (now w) ≡ COLUMNS * m ⌝ }
     requires { ⌜ g < m ⌝ }
-    requires { ⌜ r ≤ 16 ⌝ }
+    requires { ⌜ r ≤ COLUMNS ⌝ }
     ensures { λ _. ⌜ Marked m g r (now (w .entry)) (now (w .exit)) ⌝ }
 {
     if r == 0 {
@@ -63,10 +51,10 @@ fn mark_link(s: &[u8], w: &mut [u32], m: usize, count: usize, d: usize, ranks: &
     mark(w, m, g, q);
 }
 
-// The groups that links name.
+// The groups that links name, in a work space that is 0.
 fn mark_links(s: &[u8], w: &mut [u32], m: usize, count: usize, d: usize, ranks: &[u32])
     requires { ⌜ MarkGiven (now s) m count d (now ranks) ⌝ }
-    requires { ⌜ Clear m d count (now w) ⌝ }
+    requires { ⌜ now w ≡ zeros (COLUMNS * m) ⌝ }
     ensures { λ _. ⌜ OwnMarks (now (s .entry)) m count d (now (ranks .entry)) m (now (w .exit)) ⌝ }
 {
     let mut i: usize = 0;
@@ -79,8 +67,8 @@ fn mark_links(s: &[u8], w: &mut [u32], m: usize, count: usize, d: usize, ranks: 
 // The parent of group g, if g is marked in column c.
 fn lift(s: &[u8], at: usize, w: &mut [u32], m: usize, count: usize, c: usize, g: usize)
     requires { ⌜ Sized (now s) at m count ⌝ }
-    requires { ⌜ length (now w) ≡ 16 * m ⌝ }
-    requires { ⌜ c < 16 ⌝ }
+    requires { ⌜ length (now w) ≡ COLUMNS * m ⌝ }
+    requires { ⌜ c < COLUMNS ⌝ }
     requires { ⌜ g < count ⌝ }
     ensures { λ _. ⌜ LiftOne (now (s .entry)) m c g (now (w .entry)) (now (w .exit)) ⌝ }
 {
@@ -97,8 +85,8 @@ fn lift(s: &[u8], at: usize, w: &mut [u32], m: usize, count: usize, c: usize, g:
 // All groups above those that are marked in column c. Numbers rise from a group to its parent, so one pass does.
 fn lift_column(s: &[u8], at: usize, w: &mut [u32], m: usize, count: usize, c: usize)
     requires { ⌜ Sized (now s) at m count ⌝ }
-    requires { ⌜ length (now w) ≡ 16 * m ⌝ }
-    requires { ⌜ c < 16 ⌝ }
+    requires { ⌜ length (now w) ≡ COLUMNS * m ⌝ }
+    requires { ⌜ c < COLUMNS ⌝ }
     ensures { λ _. ⌜ LiftGives (now (s .entry)) m count c (now (w .entry)) (now (w .exit)) ⌝ }
 {
     let mut g: usize = 0;
@@ -111,8 +99,8 @@ fn lift_column(s: &[u8], at: usize, w: &mut [u32], m: usize, count: usize, c: us
 // The same in the first d columns.
 fn lift_all(s: &[u8], at: usize, w: &mut [u32], m: usize, count: usize, d: usize)
     requires { ⌜ Sized (now s) at m count ⌝ }
-    requires { ⌜ length (now w) ≡ 16 * m ⌝ }
-    requires { ⌜ d ≤ 16 ⌝ }
+    requires { ⌜ length (now w) ≡ COLUMNS * m ⌝ }
+    requires { ⌜ d ≤ COLUMNS ⌝ }
     ensures { λ _. ⌜ LiftAll (now (s .entry)) m count d (now (w .entry)) (now (w .exit)) ⌝ }
 {
     let mut c: usize = 0;
@@ -124,8 +112,8 @@ fn lift_all(s: &[u8], at: usize, w: &mut [u32], m: usize, count: usize, d: usize
 
 // The mark of group g in column 0 goes, if column c has none.
 fn meet(w: &mut [u32], m: usize, c: usize, g: usize)
-    requires { ⌜ length (now w) ≡ 16 * m ⌝ }
-    requires { ⌜ c < 16 ⌝ }
+    requires { ⌜ length (now w) ≡ COLUMNS * m ⌝ }
+    requires { ⌜ c < COLUMNS ⌝ }
     requires { ⌜ g < m ⌝ }
     ensures { λ _. ⌜ MeetOne m c g (now (w .entry)) (now (w .exit)) ⌝ }
 {
@@ -137,9 +125,9 @@ fn meet(w: &mut [u32], m: usize, c: usize, g: usize)
 
 // Column 0 keeps what column c has.
 fn meet_column(w: &mut [u32], m: usize, count: usize, c: usize)
-    requires { ⌜ length (now w) ≡ 16 * m ⌝ }
+    requires { ⌜ length (now w) ≡ COLUMNS * m ⌝ }
     requires { ⌜ 0 < c ⌝ }
-    requires { ⌜ c < 16 ⌝ }
+    requires { ⌜ c < COLUMNS ⌝ }
     requires { ⌜ count ≤ m ⌝ }
     requires { ⌜ m ≤ maxLinks ⌝ }
     ensures { λ _. ⌜ Meets m c count (now (w .entry)) (now (w .exit)) ⌝ }
@@ -151,11 +139,11 @@ fn meet_column(w: &mut [u32], m: usize, count: usize, c: usize)
     }
 }
 
-// Column 0 keeps what all of the first d columns have.
+// Column 0 keeps what all of the first d columns have. The others of these are 0 then.
 fn meet_all(w: &mut [u32], m: usize, count: usize, d: usize)
-    requires { ⌜ length (now w) ≡ 16 * m ⌝ }
+    requires { ⌜ length (now w) ≡ COLUMNS * m ⌝ }
     requires { ⌜ 0 < d ⌝ }
-    requires { ⌜ d ≤ 16 ⌝ }
+    requires { ⌜ d ≤ COLUMNS ⌝ }
     requires { ⌜ count ≤ m ⌝ }
     requires { ⌜ m ≤ maxLinks ⌝ }
     ensures { λ _. ⌜ MeetAll m count d (now (w .entry)) (now (w .exit)) ⌝ }
@@ -163,47 +151,28 @@ fn meet_all(w: &mut [u32], m: usize, count: usize, d: usize)
     let mut c: usize = 1;
     while c < d {
         meet_column(w, m, count, c);
+        wipe_range(w, m, c, 0, count);
         c += 1;
     }
 }
 
 // Column 0 marks the groups that hold all k named accounts; the ranks stand in lent memory.
-fn hold_with(
-    s: &[u8],
-    n: usize,
-    m: usize,
-    at: usize,
-    count: usize,
-    named: &[u8],
-    k: usize,
-    w: &mut [u32],
-    ranks: &mut [u32],
-)
-    requires { ⌜ HoldAsks (now s) n m at count k (now named) (now w) ⌝ }
+fn hold_with(s: &[u8], o: Outline, named: &[u8], k: usize, w: &mut [u32], ranks: &mut [u32])
+    requires { ⌜ HoldAsks (now s) o k (now named) (now w) ⌝ }
     requires { ⌜ maxAccounts ≤ length (now ranks) ⌝ }
-    ensures { λ _. ⌜ HoldGives (now (s .entry)) m count (now (named .entry)) (now (w .exit)) ⌝ }
+    ensures { λ _. ⌜ HoldGives (now (s .entry)) (o .m) (o .groups) (now (named .entry)) (now (w .exit)) ⌝ }
 {
-    let d = rank_named(ranks, n, named, k);
-    clear(w, m, d, count);
-    mark_links(s, w, m, count, d, ranks);
-    lift_all(s, at, w, m, count, d);
-    meet_all(w, m, count, d);
+    let d = rank_named(ranks, o.n, named, k);
+    mark_links(s, w, o.m, o.groups, d, ranks);
+    lift_all(s, o.at, w, o.m, o.groups, d);
+    meet_all(w, o.m, o.groups, d);
 }
 
-// Column 0 marks the groups that hold all k named accounts.
-pub fn hold(
-    s: &[u8],
-    n: usize,
-    m: usize,
-    at: usize,
-    count: usize,
-    named: &[u8],
-    k: usize,
-    w: &mut [u32],
-)
-    requires { ⌜ HoldAsks (now s) n m at count k (now named) (now w) ⌝ }
-    ensures { λ _. ⌜ HoldGives (now (s .entry)) m count (now (named .entry)) (now (w .exit)) ⌝ }
+// In a work space that is 0: column 0 marks the groups that hold all k named accounts, by 1. All else is 0 then.
+pub fn hold(s: &[u8], o: Outline, named: &[u8], k: usize, w: &mut [u32])
+    requires { ⌜ HoldAsks (now s) o k (now named) (now w) ⌝ }
+    ensures { λ _. ⌜ HoldGives (now (s .entry)) (o .m) (o .groups) (now (named .entry)) (now (w .exit)) ⌝ }
 {
     let mut ranks = account_room();
-    hold_with(s, n, m, at, count, named, k, w, &mut ranks);
+    hold_with(s, o, named, k, w, &mut ranks);
 }

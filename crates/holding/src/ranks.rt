@@ -1,7 +1,7 @@
 // Ranks of the named accounts: 1, 2, .. by first naming, so that a repeat changes nothing; 0 for every other account.
 ghost use Prim.Native.Nat.{_+_, _*_, _<_, _≤_};
 ghost use lib.ListN.{length};
-ghost use Rattle.truss.specs.Limits.{maxAccounts};
+ghost use Rattle.truss.specs.Limits.{maxAccounts, maxNamed};
 ghost use Rattle.columns.specs.Wiping.{Zeros};
 ghost use Rattle.holding.specs.Turns.{Names, RankedOne, RankState};
 use columns::zero;
@@ -11,7 +11,7 @@ use wire::field_at;
 fn rank_one(ranks: &mut [u32], v: usize, d: usize) -> usize
     requires { ⌜ v < length (now ranks) ⌝ }
     requires { ⌜ v < maxAccounts ⌝ }
-    requires { ⌜ d < 16 ⌝ }
+    requires { ⌜ d < maxNamed ⌝ }
     ensures { λ r. ⌜ RankedOne v d r (now (ranks .entry)) (now (ranks .exit)) ⌝ }
 {
     if ranks[v] != 0 {

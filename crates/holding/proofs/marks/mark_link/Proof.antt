@@ -29,7 +29,7 @@ cast-p : tie.Need-cast-p
 cast-p c = omega (arith, c .before .before .before .before .before .before .before .before .pre .0 .columns, c .before .before .before .before .before .before .before .before .pre .0 .most (c .before .before .link-lower .result) (omega (arith, c .before .before .link-lower .ensures, ends-below (c .before .before .before .before .before .before .before .before .pre .0 .is-index) (c .before .before .before .before .before .before .before .before .args .i) (omega (arith, c .before .before .before .before .before .before .before .before .pre .0 .links, c .before .before .before .before .before .before .before .before .pre .1 .1)) .0)))
 
 mark-requires : tie.Need-mark-requires
-mark-requires c κs = (c .before .before .before .before .before .before .before .before .before .pre .1 .0 .size-is, (omega (arith, own-in (c .before .before .before .before .before .before .before .before .before .pre .0) (c .before .before .before .before .before .before .before .before .before .pre .1 .0) (c .before .before .before .before .before .before .before .before .before .pre .1 .1) (c .before .before .before .before .before .link-group .ensures) (c .before .before .before .before .if1 .left), few-in (c .before .before .before .before .before .before .before .before .before .pre .0)), omega (arith, c .before .before .before .before .before .before .before .before .before .pre .0 .columns, c .before .before .before .before .before .before .before .before .before .pre .0 .most (c .before .before .before .link-lower .result) (omega (arith, c .before .before .before .link-lower .ensures, ends-below (c .before .before .before .before .before .before .before .before .before .pre .0 .is-index) (c .before .before .before .before .before .before .before .before .before .args .i) (omega (arith, c .before .before .before .before .before .before .before .before .before .pre .0 .links, c .before .before .before .before .before .before .before .before .before .pre .1 .1)) .0)))))
+mark-requires c κs = (c .before .before .before .before .before .before .before .before .before .pre .1 .0 .within .size, (omega (arith, own-in (c .before .before .before .before .before .before .before .before .before .pre .0) (c .before .before .before .before .before .before .before .before .before .pre .1 .0) (c .before .before .before .before .before .before .before .before .before .pre .1 .1) (c .before .before .before .before .before .link-group .ensures) (c .before .before .before .before .if1 .left), few-in (c .before .before .before .before .before .before .before .before .before .pre .0)), omega (arith, c .before .before .before .before .before .before .before .before .before .pre .0 .columns, c .before .before .before .before .before .before .before .before .before .pre .0 .most (c .before .before .before .link-lower .result) (omega (arith, c .before .before .before .link-lower .ensures, ends-below (c .before .before .before .before .before .before .before .before .before .pre .0 .is-index) (c .before .before .before .before .before .before .before .before .before .args .i) (omega (arith, c .before .before .before .before .before .before .before .before .before .pre .0 .links, c .before .before .before .before .before .before .before .before .before .pre .1 .1)) .0)))))
 
 mul-q : tie.Need-mul-q
 mul-q c = omega (arith, c .before .before .before .before .before .link-higher .ensures, ends-below (c .before .before .before .before .before .before .before .before .before .before .before .before .pre .0 .is-index) (c .before .before .before .before .before .before .before .before .before .before .before .before .args .i) (omega (arith, c .before .before .before .before .before .before .before .before .before .before .before .before .pre .0 .links, c .before .before .before .before .before .before .before .before .before .before .before .before .pre .1 .1)) .1, few-accounts (c .before .before .before .before .before .before .before .before .before .before .before .before .pre .0 .is-index))
@@ -41,7 +41,7 @@ cast-q : tie.Need-cast-q
 cast-q c = omega (arith, c .before .before .before .before .before .before .before .before .before .before .before .before .before .pre .0 .columns, c .before .before .before .before .before .before .before .before .before .before .before .before .before .pre .0 .most (c .before .before .before .before .before .before .link-higher .result) (omega (arith, c .before .before .before .before .before .before .link-higher .ensures, ends-below (c .before .before .before .before .before .before .before .before .before .before .before .before .before .pre .0 .is-index) (c .before .before .before .before .before .before .before .before .before .before .before .before .before .args .i) (omega (arith, c .before .before .before .before .before .before .before .before .before .before .before .before .before .pre .0 .links, c .before .before .before .before .before .before .before .before .before .before .before .before .before .pre .1 .1)) .1)))
 
 mark-requires-2 : tie.Need-mark-requires-2
-mark-requires-2 c κs = (c .before .before .before .before .mark .ensures .length-is ∙ c .before .before .before .before .before .before .before .before .before .before .before .before .before .before .pre .1 .0 .size-is, (omega (arith, own-in (c .before .before .before .before .before .before .before .before .before .before .before .before .before .before .pre .0) (c .before .before .before .before .before .before .before .before .before .before .before .before .before .before .pre .1 .0) (c .before .before .before .before .before .before .before .before .before .before .before .before .before .before .pre .1 .1) (c .before .before .before .before .before .before .before .before .before .before .link-group .ensures) (c .before .before .before .before .before .before .before .before .before .if1 .left), few-in (c .before .before .before .before .before .before .before .before .before .before .before .before .before .before .pre .0)), omega (arith, c .before .before .before .before .before .before .before .before .before .before .before .before .before .before .pre .0 .columns, c .before .before .before .before .before .before .before .before .before .before .before .before .before .before .pre .0 .most (c .before .before .before .before .before .before .before .link-higher .result) (omega (arith, c .before .before .before .before .before .before .before .link-higher .ensures, ends-below (c .before .before .before .before .before .before .before .before .before .before .before .before .before .before .pre .0 .is-index) (c .before .before .before .before .before .before .before .before .before .before .before .before .before .before .args .i) (omega (arith, c .before .before .before .before .before .before .before .before .before .before .before .before .before .before .pre .0 .links, c .before .before .before .before .before .before .before .before .before .before .before .before .before .before .pre .1 .1)) .1)))))
+mark-requires-2 c κs = (c .before .before .before .before .mark .ensures .length-is ∙ c .before .before .before .before .before .before .before .before .before .before .before .before .before .before .pre .1 .0 .within .size, (omega (arith, own-in (c .before .before .before .before .before .before .before .before .before .before .before .before .before .before .pre .0) (c .before .before .before .before .before .before .before .before .before .before .before .before .before .before .pre .1 .0) (c .before .before .before .before .before .before .before .before .before .before .before .before .before .before .pre .1 .1) (c .before .before .before .before .before .before .before .before .before .before .link-group .ensures) (c .before .before .before .before .before .before .before .before .before .if1 .left), few-in (c .before .before .before .before .before .before .before .before .before .before .before .before .before .before .pre .0)), omega (arith, c .before .before .before .before .before .before .before .before .before .before .before .before .before .before .pre .0 .columns, c .before .before .before .before .before .before .before .before .before .before .before .before .before .before .pre .0 .most (c .before .before .before .before .before .before .before .link-higher .result) (omega (arith, c .before .before .before .before .before .before .before .link-higher .ensures, ends-below (c .before .before .before .before .before .before .before .before .before .before .before .before .before .before .pre .0 .is-index) (c .before .before .before .before .before .before .before .before .before .before .before .before .before .before .args .i) (omega (arith, c .before .before .before .before .before .before .before .before .before .before .before .before .before .before .pre .0 .links, c .before .before .before .before .before .before .before .before .before .before .before .before .before .before .pre .1 .1)) .1)))))
 
 same-length : tie.Need-same-length
 same-length c = search needs

@@ -1,7 +1,9 @@
 -- `holding::marks::mark_links` meets its contract. Assumes nothing.
 use native.Mathlib.Omega.{arith}
-use mathlib.Core.Path.{_≡_, sym, _∙_}
+use mathlib.Core.Path.{_≡_, sym, ap, _∙_}
 use Prim.Native.Nat.{_-_, _≤_}
+use lib.ListN.{length}
+use Rattle.columns.specs.Wiping.{zeros-length}
 use Rattle.holding.specs.Turns.{OwnMarks, own-none, few-all}
 use Rattle.holding.proofs.marks.mark_links.Statement.{statement}
 use Rattle.holding.proofs.marks.mark_links.Tie as tie
@@ -13,7 +15,7 @@ abbrev μ-loop : tie.MeasureT-loop
 μ-loop s w₀ m count d ranks i₀ w i = m - i
 
 loop-holds : tie.Need-loop-holds Inv-loop μ-loop
-loop-holds c = (omega arith, own-none (c .before .before .before .pre .1))
+loop-holds c = (omega arith, own-none (c .before .before .before .pre .0 .columns) (c .before .before .before .pre .1))
 
 mark-link-requires : tie.Need-mark-link-requires Inv-loop μ-loop
 mark-link-requires c κs = (c .before .before .before .before .before .before .pre .0, (c .before .before .loop .inv .1, c .before .loop-test .taken))
@@ -28,7 +30,7 @@ loop-again : tie.Need-loop-again Inv-loop μ-loop
 loop-again c = (omega (arith, c .before .before .before .before .loop-test .taken), c .before .before .mark-link .ensures)
 
 same-length : tie.Need-same-length Inv-loop μ-loop
-same-length c = c .before .loop .inv .1 .size-is ∙ sym (c .before .before .before .before .before .pre .1 .size)
+same-length c = c .before .loop .inv .1 .within .size ∙ sym (ap length (c .before .before .before .before .before .pre .1) ∙ zeros-length _)
 
 returns : tie.Need-returns Inv-loop μ-loop
 returns c = let e : c .before .loop .i ≡ c .before .before .before .before .before .args .m = omega (arith, c .loop-test .left, c .before .loop .inv .0) in rw e at (c .before .loop .inv .1)

@@ -16,19 +16,22 @@ loop-holds : tie.Need-loop-holds Inv-loop μ-loop
 loop-holds c = (omega (arith, c .before .pre .1 .0), omega arith, meet-all-none)
 
 meet-column-requires : tie.Need-meet-column-requires Inv-loop μ-loop
-meet-column-requires c κs = (c .before .before .loop .inv .2 .only .length-is ∙ c .before .before .before .before .pre .0, (c .before .before .loop .inv .1, (omega (arith, c .before .loop-test .taken, c .before .before .before .before .pre .1 .1 .0), (c .before .before .before .before .pre .1 .1 .1 .0, c .before .before .before .before .pre .1 .1 .1 .1))))
+meet-column-requires c κs = (c .before .before .loop .inv .2 .length-is ∙ c .before .before .before .before .pre .0, (c .before .before .loop .inv .1, (omega (arith, c .before .loop-test .taken, c .before .before .before .before .pre .1 .1 .0), (c .before .before .before .before .pre .1 .1 .1 .0, c .before .before .before .before .pre .1 .1 .1 .1))))
+
+wipe-range-requires : tie.Need-wipe-range-requires Inv-loop μ-loop
+wipe-range-requires c κs = (c .before .before .before .meet-column .ensures .only .length-is ∙ c .before .before .before .before .before .before .loop .inv .2 .length-is ∙ c .before .before .before .before .before .before .before .before .pre .0, (omega (arith, c .before .before .before .before .before .loop-test .taken, c .before .before .before .before .before .before .before .before .pre .1 .1 .0), (omega arith, (c .before .before .before .before .before .before .before .before .pre .1 .1 .1 .0, omega (arith, c .before .before .before .before .before .before .before .before .pre .1 .1 .1 .1)))))
 
 add-c : tie.Need-add-c Inv-loop μ-loop
-add-c c = omega (arith, c .before .before .before .before .loop-test .taken, c .before .before .before .before .before .before .before .pre .1 .1 .0)
+add-c c = omega (arith, c .before .before .before .before .before .before .before .before .loop-test .taken, c .before .before .before .before .before .before .before .before .before .before .before .pre .1 .1 .0)
 
 loop-less : tie.Need-loop-less Inv-loop μ-loop
-loop-less c = omega (arith, c .before .before .before .before .loop-test .taken)
+loop-less c = omega (arith, c .before .before .before .before .before .before .before .before .loop-test .taken)
 
 loop-again : tie.Need-loop-again Inv-loop μ-loop
-loop-again c = (omega (arith, c .before .before .before .before .loop-test .taken), omega arith, meet-all-more (c .before .before .before .before .before .before .before .pre .1 .1 .1 .0) (c .before .before .before .before .before .loop .inv .1) (c .before .before .before .before .before .loop .inv .2) (c .before .before .meet-column .ensures))
+loop-again c = (omega (arith, c .before .before .before .before .before .before .before .before .loop-test .taken), omega arith, meet-all-more (c .before .before .before .before .before .before .before .before .before .before .before .pre .1 .1 .1 .0) (c .before .before .before .before .before .before .before .before .before .loop .inv .1) (c .before .before .before .before .before .before .before .before .before .loop .inv .2) (c .before .before .before .before .before .before .meet-column .ensures) (c .before .before .wipe-range .ensures))
 
 same-length : tie.Need-same-length Inv-loop μ-loop
-same-length c = c .before .loop .inv .2 .only .length-is
+same-length c = c .before .loop .inv .2 .length-is
 
 returns : tie.Need-returns Inv-loop μ-loop
 returns c = let e : c .before .loop .c ≡ c .before .before .before .args .d = omega (arith, c .loop-test .left, c .before .loop .inv .0) in rw e at (c .before .loop .inv .2)
@@ -41,6 +44,7 @@ meet-all-spec =
     μ-loop
     loop-holds
     meet-column-requires
+    wipe-range-requires
     add-c
     loop-less
     loop-again
