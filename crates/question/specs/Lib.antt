@@ -4,6 +4,4 @@ pub mod Lists
 pub mod Links
 pub mod Levels
 pub mod Named
-pub mod Desk
-pub mod DeskBytes
-pub mod Run
+pub mod Asked

@@ -7,10 +7,10 @@ use mathlib.Core.List.{List·Memᴰ as In, List·Memᴰ·not-nil as in-nil}
 use Prim.Native.Nat.{ℕ, suc, _+_, _*_, _-_, _≤_, _<_}
 use native.Mathlib.Nat.{le-antisymm}
 use native.Mathlib.Omega.{arith}
-use lib.Dec.{eqb, leb}
+use lib.Dec.{eqb, leb, ltb}
 use lib.ListN.{length}
-use borrow.Author.Tests.{le-leb, lt-leb, leb-true, lt-ltb, le-ltb, eq-eqb}
-use Rattle.truss.specs.Limits.{minLevel, noGroup, maxAccounts, maxLinks}
+use borrow.Author.Tests.{le-leb, lt-leb, leb-true, ltb-false, eq-eqb}
+use Rattle.truss.specs.Limits.{minStrength, maxStrength, minLevel, maxLevel, noGroup, maxAccounts, maxLinks}
 use Rattle.truss.specs.Lists.{any, filter, range, position, largest}
 use Rattle.truss.specs.Graph.{Graph, Link, link, sameLink, linkAt, linkNumber, member}
 use Rattle.truss.specs.Strength.{strength, strengthBound}
@@ -18,20 +18,20 @@ use Rattle.truss.specs.Forest.{sameComponent}
 use Rattle.truss.specs.Group.{groupAt, groups, groupOf, labelsAt}
 use Rattle.truss.specs.Refusal.{Checked, passed, refuse}
 use Rattle.truss.specs.Question.{Answer, number, numbers, answer, outside, badLevel, joinedUpTo, groupLinks, ask-strength, ask-joined, ask-links}
-use Rattle.laws.proofs.Lists.{test, true-not-false, both, and-left, and-right, largest-max, largest-passes}
+use Rattle.laws.proofs.Lists.{test, true-not-false, or-left-false, both, and-left, and-right, largest-max, largest-passes}
 use Rattle.laws.proofs.Numbers.{same-or-not, less-or-not}
 use Rattle.laws.proofs.Members.{in-any, number-lt, link-of-number, filter-in, in-filter, filter-none, in-range}
 use Rattle.laws.proofs.Sets.{any-number}
 use Rattle.laws.proofs.Peeling.{strength-at-most}
 use Rattle.laws.proofs.Groups.{size, strengthAt, groupAt-eq, groupAt-none, group-strong}
 use Rattle.laws.proofs.Stored.{groupCount}
-use Rattle.columns.specs.Columns.{cell, store}
+use Rattle.columns.specs.Columns.{cell, store, COLUMNS}
 use Rattle.columns.specs.Laws.{upd-store, length-store}
+use Rattle.limits.specs.declared.Strength.{Strength}
+use Rattle.limits.specs.declared.MaybeStrength.the-variants.{Known, OutOfRange}
+use Rattle.limits.specs.Range.{strengthOf}
 use Rattle.index.specs.declared.Reply.{Reply as CReply}
-use Rattle.truss.specs.Record.{fieldAt}
-use Rattle.laws.proofs.Size.{index-room}
-use Rattle.index.specs.Read.{Opened, pairsIn}
-use Rattle.stored.specs.Rows.{graphIn, IsIndex, GroupsAt, Shape, proper, fits-groups, few, few-links, few-accounts, long, opened-index, opened-shape}
+use Rattle.stored.specs.Rows.{graphIn, IsIndex, GroupsAt, Shape, proper, fits-groups, few, few-links, few-accounts, strength-range}
 use Rattle.stored.specs.Climb.{same-group, group-some, group-same}
 use Rattle.holding.specs.Marks.{Marks}
 use Rattle.question.specs.Replies.{Answers}
@@ -56,14 +56,9 @@ module _ (G : Graph) {n : ℕ} (accounts : G .n ≡ n) where
   unfolding outside any
   outside-none = refl
 
-pub level-low : (k : ℕ) → k < 3 → badLevel k ≡ true
-level-low k l = rw (lt-ltb k 3 l) refl
-
-pub level-high : (k : ℕ) → 3 ≤ k → 64 < k → badLevel k ≡ true
-level-high k l h = rw (le-ltb k 3 l, lt-ltb 64 k h) refl
-
-pub level-good : (k : ℕ) → 3 ≤ k → k ≤ 64 → badLevel k ≡ false
-level-good k l h = rw (le-ltb k 3 l, le-ltb 64 k h) refl
+-- a level that is not refused
+pub level-least : (k : ℕ) → badLevel k ≡ false → minLevel ≤ k
+level-least k q = ltb-false k minLevel (or-left-false (ltb k minLevel) (ltb maxLevel k) q)
 
 -- ---- a link by its number
 
@@ -97,6 +92,18 @@ module _ (G : Graph) (e : Link) {m r : ℕ} (links : size G ≡ m) (q : r ≡ li
 
   pub found-strength : r ≢ m → strengthAt G r ≡ strength G e
   found-strength n = ap (strength G) (ap (linkAt G) q ∙ link-of-number G e (found-link n))
+
+-- a strength's number, which every link of an index has
+pub known-strength : {x : ℕ} {k : Strength} → strengthOf x ≡ Known k → (minStrength ≤ x) × (x ≤ maxStrength) → k .0 ≡ x
+unfolding strengthOf
+known-strength {x} {k} q (a, c) = let e : Known (record { 0 = x }) ≡ Known k = sym (rw (le-leb minStrength x a, le-leb x maxStrength c) refl) ∙ q in let s : _≡_ {A = Strength} (record { 0 = x }) k = cc in sym (ap (λ (y : Strength). y .0) s)
+
+pub no-strength : {x : ℕ} → strengthOf x ≡ OutOfRange → (minStrength ≤ x) × (x ≤ maxStrength) → ⊥
+unfolding strengthOf
+no-strength {x} q (a, c) = let e : Known (record { 0 = x }) ≡ OutOfRange = sym (rw (le-leb minStrength x a, le-leb x maxStrength c) refl) ∙ q in let z : _≡_ {A = ℕ} 0 1 = cc in omega arith
+
+pub strength-known : {b : List ℕ} → IsIndex b → {i x : ℕ} → i < size (graphIn b) → x ≡ strengthAt (graphIn b) i → (minStrength ≤ x) × (x ≤ maxStrength)
+strength-known I {i} l q = let r = strength-range I i l in (omega (arith, q, r .0), omega (arith, q, r .1))
 
 -- ---- A
 
@@ -287,10 +294,10 @@ inside-yes m = record { yes = λ _. m; no = λ z. absurd (omega (arith, z)); sma
 
 -- the first i links are marked just if they are in the group
 pub record Members (G : Graph) (k e m i : ℕ) (w : List ℕ) : Type 0 where
-  pub size-is : length w ≡ 16 * m
+  pub size-is : length w ≡ COLUMNS * m
   pub marks : Marks (cell w m 0) i (λ (j : ℕ). In j (groupAt G k e))
 
-pub members-none : {G : Graph} {k e m : ℕ} {w : List ℕ} → length w ≡ 16 * m → Members G k e m 0 w
+pub members-none : {G : Graph} {k e m : ℕ} {w : List ℕ} → length w ≡ COLUMNS * m → Members G k e m 0 w
 members-none q = record { size-is = q; marks = record { yes = λ j l. absurd (omega arith); no = λ j l. absurd (omega arith) } }
 
 pub members-more : {G : Graph} {k e m i r : ℕ} {w w′ : List ℕ} → i < m → Members G k e m i w → Inside G k e i r → w′ ≡ store w m 0 i r → Members G k e m (i + 1) w′
@@ -336,7 +343,7 @@ pub record GroupsGiven (b : List ℕ) (at count : ℕ) : Type 0 where
 
 pub record JoinedGives (G : Graph) (e f r : ℕ) : Type 0 where
   pub is : (x y : Link) → member (G .links) x ≡ true → e ≡ linkNumber G x → f ≡ linkNumber G y → r ≡ joinedUpTo G x y
-  pub small : r < 256
+  pub small : r < 65536
 
 pub record InsideAsks (b : List ℕ) (at count k e g i : ℕ) : Type 0 where
   pub given : GroupsGiven b at count
@@ -351,7 +358,7 @@ pub record MembersAsks (b : List ℕ) (at count m k e g : ℕ) (w : List ℕ) : 
   pub level : minLevel ≤ k
   pub e-in : e < size (graphIn b)
   pub is-group : g ≡ groupOf (graphIn b) (groups (graphIn b)) k e
-  pub size-is : length w ≡ 16 * m
+  pub size-is : length w ≡ COLUMNS * m
 
 pub shape-groups : {b : List ℕ} {n m at count : ℕ} → Shape b n m at count → GroupsGiven b at count
 shape-groups S = record { groups-at = S .groups-at; groups-are = S .groups }
@@ -362,10 +369,3 @@ shape-few S = (
   omega (arith, few-links (S .groups-at .is-index), S .links),
   omega (arith, few-accounts (S .groups-at .is-index), S .accounts),
 )
-
--- the place of the groups lies within an index
-pub opened-place : {b : List ℕ} {n m joins count : ℕ} → Opened b n m joins count → 5 + 8 * m + 6 * joins ≤ 40960
-opened-place {b} O =
-    let I = opened-index O in
-    let S = opened-shape O in
-    omega (arith, S .groups-at .place, long I, ap length (I .bytes), index-room (fieldAt b 1) (pairsIn b (fieldAt b 3)) (I .accepted))

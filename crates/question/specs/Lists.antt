@@ -19,7 +19,7 @@ use Rattle.laws.proofs.Numbers.{same-or-not}
 use Rattle.laws.proofs.Lists.{bool-same}
 use Rattle.laws.proofs.Members.{range-last, range-in}
 use Rattle.laws.proofs.Sets.{filter-same}
-use Rattle.columns.specs.Columns.{cell}
+use Rattle.columns.specs.Columns.{cell, COLUMNS}
 use Rattle.wire.specs.Writing.{written, written-start, written-none, written-length, written-then}
 use Rattle.index.specs.declared.Reply.{Reply as CReply}
 use Rattle.index.specs.Build.{replyIn, Replies, reply-same, reply-with}
@@ -144,7 +144,7 @@ marked-are w m size p M = filter-same (marksIt w m) p (range 0 size) (λ i k. at
 
 -- what counting and writing ask of the work space
 pub record ColumnGiven (m size : ℕ) (w : List ℕ) : Type 0 where
-  pub size-is : length w ≡ 16 * m
+  pub size-is : length w ≡ COLUMNS * m
   pub part : size ≤ m
   pub few : m ≤ maxLinks
 

@@ -21,7 +21,7 @@ use Rattle.laws.proofs.Numbers.{same-or-not, less-or-not}
 use Rattle.laws.proofs.Members.{any-in, in-any, in-getD, getD-in}
 use Rattle.laws.proofs.Stored.{groupCount, stored, noSuchGroup}
 use Rattle.laws.proofs.Answers.{D-only, D-all, numbers-in, in-numbers}
-use Rattle.columns.specs.Columns.{cell, store}
+use Rattle.columns.specs.Columns.{cell, store, COLUMNS}
 use Rattle.columns.specs.Laws.{upd-store, length-store}
 use Rattle.wire.specs.Writing.{Tells, tells-yes, tells-no}
 use Rattle.stored.specs.Rows.{graphIn, parentOf, parent-cases, Sized, sized-few}
@@ -189,10 +189,10 @@ pub record Kept (m g : ℕ) (r : Bool) (w w′ : List ℕ) : Type 0 where
 
 -- the first g marks are kept where Q holds too; P is what was marked
 pub record Keeping (m count g : ℕ) (P Q : ℕ → Type 0) (w : List ℕ) : Type 0 where
-  pub size-is : length w ≡ 16 * m
+  pub size-is : length w ≡ COLUMNS * m
   pub marks : Marks (cell w m 0) count (λ (x : ℕ). P x × (x < g → Q x))
 
-pub keeping-none : {m count : ℕ} {P Q : ℕ → Type 0} {w : List ℕ} → length w ≡ 16 * m → Marks (cell w m 0) count P → Keeping m count 0 P Q w
+pub keeping-none : {m count : ℕ} {P Q : ℕ → Type 0} {w : List ℕ} → length w ≡ COLUMNS * m → Marks (cell w m 0) count P → Keeping m count 0 P Q w
 keeping-none q M = record { size-is = q; marks = marks-as M (λ x k. refl) (λ x k p. (p, λ l. absurd (omega arith))) (λ x k p. p .0) }
 
 pub keeping-more : {m count g : ℕ} {P Q : ℕ → Type 0} {r : Bool} {w w′ : List ℕ} → count ≤ m → g < count → Keeping m count g P Q w → Tells r (Q g) → Kept m g r w w′ → Keeping m count (g + 1) P Q w′
@@ -258,7 +258,7 @@ C-marked b k named w m {count} q M =
 pub record Best (G : Graph) (m g best : ℕ) (w : List ℕ) : Type 0 where
   pub most : (x : ℕ) → x < g → cell w m 0 x ≢ 0 → stored G x .strength ≤ best
   pub met : 0 < best → (x : ℕ) × (x < g) × (cell w m 0 x ≢ 0) × (stored G x .strength ≡ best)
-  pub small : best < 256
+  pub small : best < 65536
 
 pub best-none : {G : Graph} {m : ℕ} {w : List ℕ} → Best G m 0 0 w
 best-none = record { most = λ x l. absurd (omega arith); met = λ l. absurd (omega arith); small = omega arith }
@@ -267,15 +267,15 @@ best-none = record { most = λ x l. absurd (omega arith); met = λ l. absurd (om
 pub record Counts (G : Graph) (m g best r : ℕ) (w : List ℕ) : Type 0 where
   pub unmarked : cell w m 0 g ≡ 0 → r ≡ best
   pub marked-is : cell w m 0 g ≢ 0 → ((r ≡ best) × (stored G g .strength ≤ best)) ⊎ ((r ≡ stored G g .strength) × (best ≤ stored G g .strength))
-  pub small : r < 256
+  pub small : r < 65536
 
-pub counts-unmarked : {G : Graph} {m g best x : ℕ} {w : List ℕ} → x ≡ cell w m 0 g → x ≡ 0 → best < 256 → Counts G m g best best w
+pub counts-unmarked : {G : Graph} {m g best x : ℕ} {w : List ℕ} → x ≡ cell w m 0 g → x ≡ 0 → best < 65536 → Counts G m g best best w
 counts-unmarked q z l = record { unmarked = λ _. refl; marked-is = λ n. absurd (n (sym q ∙ z)); small = l }
 
-pub counts-less : {G : Graph} {m g best x t : ℕ} {w : List ℕ} → x ≡ cell w m 0 g → x ≢ 0 → t ≡ stored G g .strength → t ≤ best → best < 256 → Counts G m g best best w
+pub counts-less : {G : Graph} {m g best x t : ℕ} {w : List ℕ} → x ≡ cell w m 0 g → x ≢ 0 → t ≡ stored G g .strength → t ≤ best → best < 65536 → Counts G m g best best w
 counts-less q n e h l = record { unmarked = λ z. absurd (n (q ∙ z)); marked-is = λ _. inl (refl, omega (arith, e, h)); small = l }
 
-pub counts-more : {G : Graph} {m g best x t : ℕ} {w : List ℕ} → x ≡ cell w m 0 g → x ≢ 0 → t ≡ stored G g .strength → best < t → t < 256 → Counts G m g best t w
+pub counts-more : {G : Graph} {m g best x t : ℕ} {w : List ℕ} → x ≡ cell w m 0 g → x ≢ 0 → t ≡ stored G g .strength → best < t → t < 65536 → Counts G m g best t w
 counts-more q n e h l = record { unmarked = λ z. absurd (n (q ∙ z)); marked-is = λ _. inr (e, omega (arith, e, h)); small = l }
 
 pub best-more : {G : Graph} {m g best r : ℕ} {w : List ℕ} → Best G m g best w → Counts G m g best r w → Best G m (g + 1) r w
@@ -369,7 +369,7 @@ FaultGives n named r = (G : Graph) → G .n ≡ n → r ≡ namesFault G named
 
 pub record HeldGives (b : List ℕ) (n m count : ℕ) (named : List ℕ) (r : ℕ) (w : List ℕ) : Type 0 where
   pub fault : r ≡ namesFault (graphIn b) named
-  pub size-is : length w ≡ 16 * m
+  pub size-is : length w ≡ COLUMNS * m
   pub held : r ≡ 0 → GoodNames (graphIn b) n (length named / 2) named × HoldGives b m count named w
 
 abbrev pub Holding : List ℕ → List ℕ → ℕ → Type 0
@@ -377,21 +377,21 @@ Holding b named g = holdsAll (graphIn b) (accountsIn named) (stored (graphIn b) 
 
 -- what is marked stays marked where Q is: whatever accounts were named
 pub record KeepState (b : List ℕ) (m count g : ℕ) (Q : ℕ → Type 0) (w₀ w : List ℕ) : Type 0 where
-  pub size-is : length w ≡ 16 * m
+  pub size-is : length w ≡ COLUMNS * m
   pub marks : (named : List ℕ) → HoldGives b m count named w₀ → Keeping m count g (Holding b named) Q w
 
-pub keep-none : {b : List ℕ} {m count : ℕ} {Q : ℕ → Type 0} {w : List ℕ} → length w ≡ 16 * m → KeepState b m count 0 Q w w
+pub keep-none : {b : List ℕ} {m count : ℕ} {Q : ℕ → Type 0} {w : List ℕ} → length w ≡ COLUMNS * m → KeepState b m count 0 Q w w
 keep-none q = record { size-is = q; marks = λ named H. keeping-none q (H .marks) }
 
 pub keep-more : {b : List ℕ} {at m count g : ℕ} {Q : ℕ → Type 0} {r : Bool} {w₀ w w′ : List ℕ} → Sized b at m count → g < count → KeepState b m count g Q w₀ w → Tells r (Q g) → Kept m g r w w′ → KeepState b m count (g + 1) Q w₀ w′
 keep-more {b} {at} {m} {count} {g} {Q} {r} {w₀} {w} {w′} A l K S T = record { size-is = go r refl; marks = λ named H. keeping-more (sized-few A .0) l (K .marks named H) S T }
   where
-    go : (t : Bool) → r ≡ t → length w′ ≡ 16 * m
+    go : (t : Bool) → r ≡ t → length w′ ≡ COLUMNS * m
     go true e = ap length (T .stays e) ∙ K .size-is
     go false e = ap length (T .goes e) ∙ length-store w m 0 g 0 ∙ K .size-is
 
 pub record LevelGives (b : List ℕ) (m count k : ℕ) (w w′ : List ℕ) : Type 0 where
-  pub size-is : length w′ ≡ 16 * m
+  pub size-is : length w′ ≡ COLUMNS * m
   pub marks : (named : List ℕ) → HoldGives b m count named w → Marks (cell w′ m 0) count (λ (g : ℕ). (holdsAll (graphIn b) (accountsIn named) (stored (graphIn b) g) ≡ true) × (isGroupAt (graphIn b) k (stored (graphIn b) g) ≡ true))
 
 abbrev pub AtLevel : List ℕ → ℕ → ℕ → Type 0
@@ -401,7 +401,7 @@ pub level-done : {b : List ℕ} {m count g k : ℕ} {w w′ : List ℕ} → coun
 level-done l K = record { size-is = K .size-is; marks = λ named H. keeping-done l (K .marks named H) }
 
 pub record StrongestGives (b : List ℕ) (m count best : ℕ) (w w′ : List ℕ) : Type 0 where
-  pub size-is : length w′ ≡ 16 * m
+  pub size-is : length w′ ≡ COLUMNS * m
   pub marks : (named : List ℕ) → HoldGives b m count named w → Marks (cell w′ m 0) count (λ (g : ℕ). (holdsAll (graphIn b) (accountsIn named) (stored (graphIn b) g) ≡ true) × (best ≤ stored (graphIn b) g .strength))
 
 abbrev pub AsStrong : List ℕ → ℕ → ℕ → Type 0

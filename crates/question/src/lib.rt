@@ -1,7 +1,6 @@
-// The six questions on the bytes of an index, and the desk that counts them. A question is checked as 7, 8, 9, 10, 11, 12, those that apply; refused, it
-// leaves every lent byte. What is said of an index here is what its bytes mean; nothing is known of how it was built.
+// The six questions on the bytes of an index. A question is checked as 7, 8, 9, 10, 11, 12, those that apply; refused, it leaves every lent byte. What is said of
+// an index here is what its bytes mean; nothing is known of how it was built.
 pub mod answer;
-pub mod desk;
-pub mod links;
-pub mod lists;
-pub mod named;
+mod links;
+mod lists;
+mod named;

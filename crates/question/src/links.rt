@@ -8,42 +8,44 @@ ghost use Rattle.truss.specs.Lists.{any};
 ghost use Rattle.truss.specs.Group.{groupAt};
 ghost use Rattle.truss.specs.Question.{ask-joined, ask-links, ask-strength};
 ghost use Rattle.laws.proofs.Groups.{size};
-ghost use Rattle.stored.specs.Rows.{Shape, graphIn};
+ghost use Rattle.columns.specs.Columns.{COLUMNS};
+ghost use Rattle.stored.specs.Rows.{Outlined, graphIn};
 ghost use Rattle.question.specs.Replies.{Answers};
 ghost use Rattle.question.specs.Links.{GroupsGiven, Inside, InsideAsks, JoinedGives, Members, MembersAsks, NumberGives};
 use crate::lists::give;
 use columns::put;
 use index::Reply;
 use index::answered;
+use index::open::Outline;
+use limits::LEAST_LEVEL;
+use limits::MaybeStrength;
 use limits::NO_GROUP;
+use limits::Strength;
+use limits::bad_level;
 use stored::climb::group_at;
 use stored::find::find_link;
 use stored::rows::link_strength;
 
 // A. The strength of a link.
-pub fn strength_of(
-    s: &[u8],
-    n: usize,
-    m: usize,
-    at: usize,
-    count: usize,
-    a: usize,
-    b: usize,
-) -> Reply
-    requires { ⌜ Shape (now s) n m at count ⌝ }
+pub fn strength_of(s: &[u8], o: Outline, a: usize, b: usize) -> Reply
+    requires { ⌜ Outlined (now s) o ⌝ }
     ensures { λ r. ⌜ NumberGives (graphIn (now (s .entry))) (ask-strength a b) r ⌝ }
 {
-    if n <= a {
+    if o.n <= a {
         return answered(9, 0);
     }
-    if n <= b {
+    if o.n <= b {
         return answered(9, 0);
     }
-    let e = find_link(s, m, a, b);
-    if e == m {
+    let e = find_link(s, o.m, a, b);
+    if e == o.m {
         return answered(11, 0);
     }
-    answered(0, link_strength(s, e) as u32)
+    match Strength::of(link_strength(s, e)) {
+        MaybeStrength::Known(k) => answered(0, k.number() as u32),
+        // No link of an index has another strength (laws: strength-at-least-2, strength-max).
+        MaybeStrength::OutOfRange => answered(7, 0),
+    }
 }
 
 // Whether link f is in the group at k with link e.
@@ -69,7 +71,7 @@ fn joined_up_to(s: &[u8], at: usize, count: usize, e: usize, f: usize) -> usize
     ensures { λ r. ⌜ JoinedGives (graphIn (now (s .entry))) e f r ⌝ }
 {
     let mut k = link_strength(s, e);
-    while 3 <= k {
+    while LEAST_LEVEL <= k {
         if in_one_group(s, at, count, k, e, f) {
             return k;
         }
@@ -79,41 +81,31 @@ fn joined_up_to(s: &[u8], at: usize, count: usize, e: usize, f: usize) -> usize
 }
 
 // B. The largest k at which two links are joined.
-pub fn joined(
-    s: &[u8],
-    n: usize,
-    m: usize,
-    at: usize,
-    count: usize,
-    a: usize,
-    b: usize,
-    c: usize,
-    d: usize,
-) -> Reply
-    requires { ⌜ Shape (now s) n m at count ⌝ }
+pub fn joined(s: &[u8], o: Outline, a: usize, b: usize, c: usize, d: usize) -> Reply
+    requires { ⌜ Outlined (now s) o ⌝ }
     ensures { λ r. ⌜ NumberGives (graphIn (now (s .entry))) (ask-joined a b c d) r ⌝ }
 {
-    if n <= a {
+    if o.n <= a {
         return answered(9, 0);
     }
-    if n <= b {
+    if o.n <= b {
         return answered(9, 0);
     }
-    if n <= c {
+    if o.n <= c {
         return answered(9, 0);
     }
-    if n <= d {
+    if o.n <= d {
         return answered(9, 0);
     }
-    let e = find_link(s, m, a, b);
-    if e == m {
+    let e = find_link(s, o.m, a, b);
+    if e == o.m {
         return answered(11, 0);
     }
-    let f = find_link(s, m, c, d);
-    if f == m {
+    let f = find_link(s, o.m, c, d);
+    if f == o.m {
         return answered(11, 0);
     }
-    answered(0, joined_up_to(s, at, count, e, f) as u32)
+    answered(0, joined_up_to(s, o.at, o.groups, e, f) as u32)
 }
 
 // 1 if link i is in the group at k with number g, which has link e; else 0.
@@ -157,35 +149,29 @@ pub fn group_links(
     s: &[u8],
     out: &mut [u8],
     w: &mut [u32],
-    n: usize,
-    m: usize,
-    at: usize,
-    count: usize,
+    o: Outline,
     a: usize,
     b: usize,
     k: usize,
 ) -> Reply
-    requires { ⌜ Shape (now s) n m at count ⌝ }
-    requires { ⌜ length (now w) ≡ 16 * m ⌝ }
+    requires { ⌜ Outlined (now s) o ⌝ }
+    requires { ⌜ length (now w) ≡ COLUMNS * o .m ⌝ }
     ensures { λ r. ⌜ Answers (graphIn (now (s .entry))) (ask-links k a b) (now (out .entry)) r (now (out .exit)) ⌝ }
 {
-    if n <= a {
+    if o.n <= a {
         return answered(9, 0);
     }
-    if n <= b {
+    if o.n <= b {
         return answered(9, 0);
     }
-    if k < 3 {
+    if bad_level(k) {
         return answered(10, 0);
     }
-    if 64 < k {
-        return answered(10, 0);
-    }
-    let e = find_link(s, m, a, b);
-    if e == m {
+    let e = find_link(s, o.m, a, b);
+    if e == o.m {
         return answered(11, 0);
     }
-    let g = group_at(s, at, count, k, e);
-    mark_members(s, at, count, w, m, k, e, g);
-    give(out, w, m, m)
+    let g = group_at(s, o.at, o.groups, k, e);
+    mark_members(s, o.at, o.groups, w, o.m, k, e, g);
+    give(out, w, o.m, o.m)
 }

@@ -7,6 +7,7 @@ ghost use lib.Dec.{eqb};
 ghost use lib.ListN.{length};
 ghost use Rattle.truss.specs.Lists.{concatMap};
 ghost use Rattle.truss.specs.Record.{field};
+ghost use Rattle.wire.specs.Wire.{placeBound};
 ghost use Rattle.wire.specs.Writing.{written};
 ghost use Rattle.question.specs.Replies.{Lists};
 ghost use Rattle.question.specs.Lists.{ColumnGiven, PutGives, marked};
@@ -41,7 +42,7 @@ fn count_marks(w: &[u32], m: usize, size: usize) -> usize
 
 // The number i at a place, if x is not 0; gives the place after it.
 fn put_number(out: &mut [u8], at: usize, i: usize, x: usize) -> usize
-    requires { ⌜ at < 65536 ⌝ }
+    requires { ⌜ at < placeBound ⌝ }
     requires { ⌜ (x ≢ 0 → at + 2 ≤ length (now out)) ⌝ }
     ensures { λ r. ⌜ PutGives at i x r (now (out .entry)) (now (out .exit)) ⌝ }
 {

@@ -3,11 +3,13 @@ ghost use mathlib.Core.Path.{_≡_};
 ghost use mathlib.Core.Bool.{true};
 ghost use Prim.Native.Nat.{_+_, _*_, _<_, _≤_};
 ghost use lib.ListN.{length};
-ghost use Rattle.truss.specs.Limits.{minLevel};
+ghost use Rattle.truss.specs.Limits.{maxNamed, minLevel};
 ghost use Rattle.truss.specs.Question.{ask-all, ask-groups-at, ask-strongest, isGroupAt};
 ghost use Rattle.laws.proofs.Stored.{stored};
 ghost use Rattle.wire.specs.Writing.{Tells};
-ghost use Rattle.stored.specs.Rows.{Shape, Sized, graphIn};
+ghost use Rattle.columns.specs.Columns.{COLUMNS};
+ghost use Rattle.columns.specs.Wiping.{zeros};
+ghost use Rattle.stored.specs.Rows.{Outlined, Sized, graphIn};
 ghost use Rattle.question.specs.Replies.{Answers};
 ghost use Rattle.question.specs.Named.{AboveGives, Best, Counts, FaultGives, HeldGives, Kept, LevelGives, StrongestGives};
 use crate::lists::give;
@@ -16,7 +18,10 @@ use columns::put;
 use holding::marks::hold;
 use index::Reply;
 use index::answered;
+use index::open::Outline;
+use limits::MOST_NAMED;
 use limits::NO_GROUP;
+use limits::bad_level;
 use stored::rows::group_parent;
 use stored::rows::group_strength;
 use wire::field_at;
@@ -24,7 +29,7 @@ use wire::field_at;
 // Whether one of k named accounts is not below n.
 fn some_outside(named: &[u8], n: usize, k: usize) -> bool
     requires { ⌜ length (now named) ≡ 2 * k ⌝ }
-    requires { ⌜ k ≤ 16 ⌝ }
+    requires { ⌜ k ≤ maxNamed ⌝ }
     ensures { λ r. ⌜ AboveGives n (now (named .entry)) r ⌝ }
 {
     let mut j: usize = 0;
@@ -45,7 +50,7 @@ fn names_fault(named: &[u8], n: usize) -> u32
     if len == 0 {
         return 8;
     }
-    if 32 < len {
+    if 2 * MOST_NAMED < len {
         return 8;
     }
     if len % 2 == 1 {
@@ -59,7 +64,7 @@ fn names_fault(named: &[u8], n: usize) -> u32
 
 // The mark of group g stays if the test held.
 fn keep_if(w: &mut [u32], m: usize, g: usize, test: bool)
-    requires { ⌜ length (now w) ≡ 16 * m ⌝ }
+    requires { ⌜ length (now w) ≡ COLUMNS * m ⌝ }
     requires { ⌜ g < m ⌝ }
     ensures { λ _. ⌜ Kept m g test (now (w .entry)) (now (w .exit)) ⌝ }
 {
@@ -89,7 +94,7 @@ fn is_group_at(s: &[u8], at: usize, m: usize, count: usize, k: usize, g: usize) 
 // Marks stay at groups at k.
 fn keep_level(s: &[u8], at: usize, w: &mut [u32], m: usize, count: usize, k: usize)
     requires { ⌜ Sized (now s) at m count ⌝ }
-    requires { ⌜ length (now w) ≡ 16 * m ⌝ }
+    requires { ⌜ length (now w) ≡ COLUMNS * m ⌝ }
     requires { ⌜ minLevel ≤ k ⌝ }
     ensures { λ _. ⌜ LevelGives (now (s .entry)) m count k (now (w .entry)) (now (w .exit)) ⌝ }
 {
@@ -104,9 +109,9 @@ fn keep_level(s: &[u8], at: usize, w: &mut [u32], m: usize, count: usize, k: usi
 // The greater of best and the strength of group g, if it is marked.
 fn better(s: &[u8], at: usize, w: &[u32], m: usize, count: usize, g: usize, best: usize) -> usize
     requires { ⌜ Sized (now s) at m count ⌝ }
-    requires { ⌜ length (now w) ≡ 16 * m ⌝ }
+    requires { ⌜ length (now w) ≡ COLUMNS * m ⌝ }
     requires { ⌜ g < count ⌝ }
-    requires { ⌜ best < 256 ⌝ }
+    requires { ⌜ best < 65536 ⌝ }
     ensures { λ r. ⌜ Counts (graphIn (now (s .entry))) m g best r (now (w .entry)) ⌝ }
 {
     if get(w, m, 0, g) == 0 {
@@ -122,7 +127,7 @@ fn better(s: &[u8], at: usize, w: &[u32], m: usize, count: usize, g: usize, best
 // The greatest strength of the marked groups, 0 if there is none.
 fn greatest(s: &[u8], at: usize, w: &[u32], m: usize, count: usize) -> usize
     requires { ⌜ Sized (now s) at m count ⌝ }
-    requires { ⌜ length (now w) ≡ 16 * m ⌝ }
+    requires { ⌜ length (now w) ≡ COLUMNS * m ⌝ }
     ensures { λ r. ⌜ Best (graphIn (now (s .entry))) m count r (now (w .entry)) ⌝ }
 {
     let mut best: usize = 0;
@@ -137,7 +142,7 @@ fn greatest(s: &[u8], at: usize, w: &[u32], m: usize, count: usize) -> usize
 // Marks stay at groups of at least a strength.
 fn keep_strongest(s: &[u8], at: usize, w: &mut [u32], m: usize, count: usize, best: usize)
     requires { ⌜ Sized (now s) at m count ⌝ }
-    requires { ⌜ length (now w) ≡ 16 * m ⌝ }
+    requires { ⌜ length (now w) ≡ COLUMNS * m ⌝ }
     ensures { λ _. ⌜ StrongestGives (now (s .entry)) m count best (now (w .entry)) (now (w .exit)) ⌝ }
 {
     let mut g: usize = 0;
@@ -149,24 +154,16 @@ fn keep_strongest(s: &[u8], at: usize, w: &mut [u32], m: usize, count: usize, be
 }
 
 // 8 and 9, then the groups that hold all named accounts are marked.
-fn hold_named(
-    s: &[u8],
-    named: &[u8],
-    w: &mut [u32],
-    n: usize,
-    m: usize,
-    at: usize,
-    count: usize,
-) -> u32
-    requires { ⌜ Shape (now s) n m at count ⌝ }
-    requires { ⌜ length (now w) ≡ 16 * m ⌝ }
-    ensures { λ r. ⌜ HeldGives (now (s .entry)) n m count (now (named .entry)) r (now (w .exit)) ⌝ }
+fn hold_named(s: &[u8], named: &[u8], w: &mut [u32], o: Outline) -> u32
+    requires { ⌜ Outlined (now s) o ⌝ }
+    requires { ⌜ now w ≡ zeros (COLUMNS * o .m) ⌝ }
+    ensures { λ r. ⌜ HeldGives (now (s .entry)) (o .n) (o .m) (o .groups) (now (named .entry)) r (now (w .exit)) ⌝ }
 {
-    let f = names_fault(named, n);
+    let f = names_fault(named, o.n);
     if f != 0 {
         return f;
     }
-    hold(s, n, m, at, count, named, named.len() / 2, w);
+    hold(s, o, named, named.len() / 2, w);
     0
 }
 
@@ -176,72 +173,49 @@ pub fn groups_at(
     named: &[u8],
     out: &mut [u8],
     w: &mut [u32],
-    n: usize,
-    m: usize,
-    at: usize,
-    count: usize,
+    o: Outline,
     k: usize,
 ) -> Reply
-    requires { ⌜ Shape (now s) n m at count ⌝ }
-    requires { ⌜ length (now w) ≡ 16 * m ⌝ }
+    requires { ⌜ Outlined (now s) o ⌝ }
+    requires { ⌜ now w ≡ zeros (COLUMNS * o .m) ⌝ }
     ensures { λ r. ⌜ Answers (graphIn (now (s .entry))) (ask-groups-at k (now (named .entry))) (now (out .entry)) r (now (out .exit)) ⌝ }
 {
-    let f = hold_named(s, named, w, n, m, at, count);
+    let f = names_fault(named, o.n);
     if f != 0 {
         return answered(f, 0);
     }
-    if k < 3 {
+    if bad_level(k) {
         return answered(10, 0);
     }
-    if 64 < k {
-        return answered(10, 0);
-    }
-    keep_level(s, at, w, m, count, k);
-    give(out, w, m, count)
+    hold(s, o, named, named.len() / 2, w);
+    keep_level(s, o.at, w, o.m, o.groups, k);
+    give(out, w, o.m, o.groups)
 }
 
 // D. Of the stored groups that hold all of them, those whose strength is greatest.
-pub fn strongest_groups(
-    s: &[u8],
-    named: &[u8],
-    out: &mut [u8],
-    w: &mut [u32],
-    n: usize,
-    m: usize,
-    at: usize,
-    count: usize,
-) -> Reply
-    requires { ⌜ Shape (now s) n m at count ⌝ }
-    requires { ⌜ length (now w) ≡ 16 * m ⌝ }
+pub fn strongest_groups(s: &[u8], named: &[u8], out: &mut [u8], w: &mut [u32], o: Outline) -> Reply
+    requires { ⌜ Outlined (now s) o ⌝ }
+    requires { ⌜ now w ≡ zeros (COLUMNS * o .m) ⌝ }
     ensures { λ r. ⌜ Answers (graphIn (now (s .entry))) (ask-strongest (now (named .entry))) (now (out .entry)) r (now (out .exit)) ⌝ }
 {
-    let f = hold_named(s, named, w, n, m, at, count);
+    let f = hold_named(s, named, w, o);
     if f != 0 {
         return answered(f, 0);
     }
-    let best = greatest(s, at, w, m, count);
-    keep_strongest(s, at, w, m, count, best);
-    give(out, w, m, count)
+    let best = greatest(s, o.at, w, o.m, o.groups);
+    keep_strongest(s, o.at, w, o.m, o.groups, best);
+    give(out, w, o.m, o.groups)
 }
 
 // E. All stored groups that hold all of them.
-pub fn all_groups(
-    s: &[u8],
-    named: &[u8],
-    out: &mut [u8],
-    w: &mut [u32],
-    n: usize,
-    m: usize,
-    at: usize,
-    count: usize,
-) -> Reply
-    requires { ⌜ Shape (now s) n m at count ⌝ }
-    requires { ⌜ length (now w) ≡ 16 * m ⌝ }
+pub fn all_groups(s: &[u8], named: &[u8], out: &mut [u8], w: &mut [u32], o: Outline) -> Reply
+    requires { ⌜ Outlined (now s) o ⌝ }
+    requires { ⌜ now w ≡ zeros (COLUMNS * o .m) ⌝ }
     ensures { λ r. ⌜ Answers (graphIn (now (s .entry))) (ask-all (now (named .entry))) (now (out .entry)) r (now (out .exit)) ⌝ }
 {
-    let f = hold_named(s, named, w, n, m, at, count);
+    let f = hold_named(s, named, w, o);
     if f != 0 {
         return answered(f, 0);
     }
-    give(out, w, m, count)
+    give(out, w, o.m, o.groups)
 }

@@ -3,18 +3,18 @@ ghost use mathlib.Core.List.{[]};
 ghost use Rattle.truss.specs.Question.{ask-all, ask-groups-at, ask-joined, ask-links, ask-strength, ask-strongest};
 ghost use Rattle.index.specs.Build.{BuildGives};
 ghost use Rattle.index.specs.Read.{ReadGives};
-ghost use Rattle.question.specs.DeskBytes.{AskBytesGives};
+ghost use Rattle.desk.specs.DeskBytes.{AskBytesGives};
+use desk::ask_bytes;
+use desk::ask_number;
 use index::Reply;
 use question::answer::Question;
-use question::desk::ask_bytes;
-use question::desk::ask_number;
 
 // A links file into its index.
 #[no_mangle]
 pub extern "C" fn fe_build(links: &[u8], index: &mut [u8]) -> Reply
     ensures { λ r. ⌜ BuildGives (now (links .entry)) (now (index .entry)) r (now (index .exit)) ⌝ }
 {
-    index::build(links, index)
+    index::build::build(links, index)
 }
 
 // An index back into its links file.
@@ -22,7 +22,7 @@ pub extern "C" fn fe_build(links: &[u8], index: &mut [u8]) -> Reply
 pub extern "C" fn fe_read(index: &[u8], links: &mut [u8]) -> Reply
     ensures { λ r. ⌜ ReadGives (now (index .entry)) (now (links .entry)) r (now (links .exit)) ⌝ }
 {
-    index::read(index, links)
+    index::read::read(index, links)
 }
 
 // A. The strength of link a-b.

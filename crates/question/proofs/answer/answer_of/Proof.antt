@@ -1,9 +1,11 @@
 -- `question::answer::answer_of` meets its contract. Assumes nothing.
-use mathlib.Core.Path.{sym, subst}
+use mathlib.Core.Path.{_∙_, ap, subst, sym}
 use Rattle.stored.specs.Rows.{graphIn}
 use Rattle.question.specs.Replies.{Answers}
-use Rattle.question.specs.Desk.{questionOf}
+use Rattle.question.specs.Asked.{questionOf}
 use Rattle.question.specs.declared.answer.Question.{Question as CQuestion}
+use lib.ListN.{length}
+use Rattle.columns.specs.Wiping.{zeros-length}
 use borrow.Author.Needs.{needs}
 use Rattle.question.proofs.answer.answer_of.Statement.{statement}
 use Rattle.question.proofs.answer.answer_of.Tie as tie
@@ -72,7 +74,7 @@ cast-group-links-3 : tie.Need-cast-group-links-3
 cast-group-links-3 c = search needs
 
 group-links-requires : tie.Need-group-links-requires
-group-links-requires c κs = search needs
+group-links-requires c κs = (c .before .before .before .before .before .before .before .before .before .pre .0, ap length (c .before .before .before .before .before .before .before .before .before .pre .1) ∙ zeros-length _)
 
 returns : tie.Need-returns
 returns c = subst (λ (q : CQuestion). Answers (graphIn (c .before .before .before .before .before .before .before .before .args .s .now)) (questionOf q (c .before .before .before .before .before .before .before .before .args .named .now)) (c .before .before .before .before .before .before .before .before .args .out .now) (c .strength-of .result) (c .before .before .before .before .before .before .before .before .args .out .now)) (sym (c .before .before .q .given .1)) (c .strength-of .ensures (c .before .before .before .before .before .before .before .before .args .out .now))

@@ -7,7 +7,7 @@ use Rattle.question.proofs.links.joined_up_to.Statement.{statement}
 use Rattle.question.proofs.links.joined_up_to.Tie as tie
 
 abbrev Inv-loop : tie.InvT-loop
-Inv-loop s at count e f k₀ k = (k < 256) × NoneAbove (graphIn s) e f k
+Inv-loop s at count e f k₀ k = (k < 65536) × NoneAbove (graphIn s) e f k
 
 abbrev μ-loop : tie.MeasureT-loop
 μ-loop s at count e f k₀ k = k

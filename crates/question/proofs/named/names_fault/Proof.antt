@@ -2,11 +2,15 @@
 use mathlib.Core.Path.{sym, _∙_}
 use native.Mathlib.Omega.{arith}
 use Rattle.question.specs.Named.{none-named, many-named, odd-named, good-named, fault-8, fault-9, fault-none, half-named}
+use borrow.Author.Needs.{needs}
 use Rattle.question.proofs.named.names_fault.Statement.{statement}
 use Rattle.question.proofs.named.names_fault.Tie as tie
 
 returns : tie.Need-returns
 returns c = λ G q. fault-8 (c .before .before .args .named .now) G (none-named (c .before .before .args .named .now) (c .if1 .taken))
+
+mul-if2 : tie.Need-mul-if2
+mul-if2 c = search needs
 
 returns-2 : tie.Need-returns-2
 returns-2 c = λ G q. fault-8 (c .before .before .before .args .named .now) G (many-named (c .before .before .before .args .named .now) (c .before .if1 .left) (c .if2 .taken))
@@ -25,4 +29,4 @@ returns-5 c = λ G q. fault-none (c .before .before .before .before .before .bef
 
 pub names-fault-spec : {M : Type 1} → statement M
 names-fault-spec =
-    tie.close (tie.spec returns returns-2 returns-3 some-outside-requires returns-4 returns-5)
+    tie.close (tie.spec returns mul-if2 returns-2 returns-3 some-outside-requires returns-4 returns-5)

@@ -1,15 +1,19 @@
-// The desk: the tally of questions answered.
+// The desk, which counts the questions that were answered: lent as a record, or as the record's bytes by a host.
 ghost use mathlib.Core.List.{[]};
 ghost use mathlib.Core.Path.{_≡_};
 ghost use Prim.Native.Nat.{_≤_};
 ghost use lib.ListN.{length};
+ghost use Rattle.truss.specs.Limits.{tallyLength};
 ghost use Rattle.truss.specs.Call.{tallyBytes, tallyIn};
-ghost use Rattle.question.specs.Desk.{AskGives, deskAfter, questionOf};
-ghost use Rattle.question.specs.DeskBytes.{AskBytesGives, ShortGives};
-use crate::answer::Question;
-use crate::answer::answer;
+ghost use Rattle.question.specs.Asked.{questionOf};
+ghost use Rattle.desk.specs.Desk.{AskGives, deskAfter};
+ghost use Rattle.desk.specs.DeskBytes.{AskBytesGives, ShortGives};
 use index::Reply;
 use index::answered;
+use limits::MOST_TALLY;
+use limits::TALLY_BYTES;
+use question::answer::Question;
+use question::answer::answer;
 use wire::paste;
 use wire::wide;
 
@@ -19,7 +23,7 @@ pub struct Desk {
 }
 
 // The desk after a reply: one more if it was answered.
-pub fn desk_after(d: Desk, r: Reply) -> Desk
+fn desk_after(d: Desk, r: Reply) -> Desk
     ensures { λ e. ⌜ e ≡ deskAfter d r ⌝ }
 {
     let t = d.tally;
@@ -27,14 +31,14 @@ pub fn desk_after(d: Desk, r: Reply) -> Desk
     if refusal != 0 {
         return Desk { tally: t };
     }
-    if t == 4294967295 {
+    if t == MOST_TALLY {
         return Desk { tally: t };
     }
     Desk { tally: t + 1 }
 }
 
 // A question to the desk that is lent: answered, and the tally moved by the reply. The desk is read and stored whole, so that its proof names no field.
-pub fn ask(index: &[u8], named: &[u8], out: &mut [u8], q: Question, desk: &mut Desk) -> Reply
+fn ask(index: &[u8], named: &[u8], out: &mut [u8], q: Question, desk: &mut Desk) -> Reply
     ensures { λ r. ⌜ AskGives (now (desk .entry)) (now (index .entry)) (questionOf q (now (named .entry))) (now (out .entry)) r (now (out .exit)) (now (desk .exit)) ⌝ }
 {
     let r = answer(index, named, out, q);
@@ -44,9 +48,24 @@ pub fn ask(index: &[u8], named: &[u8], out: &mut [u8], q: Question, desk: &mut D
     r
 }
 
+// A reply, and the desk after it.
+struct Counted {
+    reply: Reply,
+    desk: Desk,
+}
+
+// A question to a desk by value: the desk is lent to `ask`, and given back as it is then.
+fn ask_value(index: &[u8], named: &[u8], out: &mut [u8], q: Question, d: Desk) -> Counted
+    ensures { λ r. ⌜ AskGives d (now (index .entry)) (questionOf q (now (named .entry))) (now (out .entry)) (r .reply) (now (out .exit)) (r .desk) ⌝ }
+{
+    let mut e = d;
+    let r = ask(index, named, out, q, &mut e);
+    Counted { reply: r, desk: e }
+}
+
 // The tally in the first four bytes of a desk record, high byte first.
 fn tally_of(desk: &[u8]) -> u32
-    requires { ⌜ 4 ≤ length (now desk) ⌝ }
+    requires { ⌜ tallyLength ≤ length (now desk) ⌝ }
     ensures { λ r. ⌜ r ≡ tallyIn (now (desk .entry)) ⌝ }
 {
     let a = wide(desk[0]);
@@ -57,7 +76,7 @@ fn tally_of(desk: &[u8]) -> u32
 }
 
 // A tally as bytes.
-fn tally_record(t: u32) -> [u8; 4]
+fn tally_record(t: u32) -> [u8; TALLY_BYTES]
     ensures { λ r. ⌜ r ≡ tallyBytes t ⌝ }
 {
     let x = t as usize;
@@ -84,15 +103,16 @@ fn ask_without_desk(index: &[u8], named: &[u8], out: &mut [u8], q: Question) -> 
 pub fn ask_bytes(index: &[u8], named: &[u8], out: &mut [u8], q: Question, desk: &mut [u8]) -> Reply
     ensures { λ r. ⌜ AskBytesGives (now (index .entry)) (questionOf q (now (named .entry))) (now (out .entry)) (now (desk .entry)) r (now (out .exit)) (now (desk .exit)) ⌝ }
 {
-    if desk.len() < 4 {
+    if desk.len() < TALLY_BYTES {
         return ask_without_desk(index, named, out, q);
     }
-    let r = answer(index, named, out, q);
+    let t = tally_of(desk);
+    let a = ask_value(index, named, out, q, Desk { tally: t });
+    let r = a.reply;
     if r.refusal != 0 {
         return r;
     }
-    let t = tally_of(desk);
-    let e = desk_after(Desk { tally: t }, r);
+    let e = a.desk;
     let rec = tally_record(e.tally);
     paste(desk, &rec);
     r

@@ -14,10 +14,10 @@ use Rattle.truss.specs.Question.{Question, Answer}
 use Rattle.truss.specs.Call.{Asked, AskedBytes, nextTally, settle, settleBytes, ask, askBytes, checkDesk, checkedAnswer, tallyIn}
 use Rattle.laws.proofs.Answers.{tally-back}
 use Rattle.index.specs.declared.Reply.{Reply as CReply}
-use Rattle.question.specs.declared.desk.Desk.{Desk}
+use Rattle.desk.specs.declared.Desk.{Desk}
 use Rattle.question.specs.Replies.{NotZero, if-not-zero, then-not-zero, checked-not-zero}
-use Rattle.question.specs.Desk.{AskGives}
-use Rattle.question.specs.DeskBytes.{AskBytesGives}
+use Rattle.desk.specs.Desk.{AskGives}
+use Rattle.desk.specs.DeskBytes.{AskBytesGives}
 
 -- 1 if the reply is an answer
 abbrev pub answeredIn : CReply → ℕ

@@ -1,27 +1,16 @@
--- The question that the code's enum names, and the desk after it. Assumes nothing.
+-- The desk after a question. Assumes nothing.
 use mathlib.Core.Path.{_≡_, ap, _∙_}
 use mathlib.Core.Logic.{_≢_}
 use mathlib.Core.List.{List}
 use Prim.Native.Nat.{ℕ, _+_, _≤_}
 use native.Mathlib.Omega.{arith}
 use Rattle.truss.specs.Limits.{maxTally}
-use Rattle.truss.specs.Question.{Question, ask-strength, ask-joined, ask-groups-at, ask-strongest, ask-all, ask-links}
+use Rattle.truss.specs.Question.{Question}
 use Rattle.truss.specs.Call.{Asked, nextTally, ask}
 use Rattle.index.specs.declared.Reply.{Reply as CReply}
 use Rattle.index.specs.Build.{replyIn}
-use Rattle.question.specs.declared.answer.Question.{Question as CQuestion}
-use Rattle.question.specs.declared.answer.Question.the-variants.{Strength, Joined, GroupsAt, StrongestGroups, AllGroups, GroupLinks}
-use Rattle.question.specs.declared.desk.Desk.{Desk}
 use Rattle.question.specs.Replies.{movedBy, AnswerGives}
-
--- each case of the enum is one question of document 01; the accounts that C, D and E name are the lent ones
-abbrev pub questionOf : CQuestion → List ℕ → Question
-questionOf (Strength a b) named = ask-strength a b
-questionOf (Joined a b c d) named = ask-joined a b c d
-questionOf (GroupsAt k) named = ask-groups-at k named
-questionOf StrongestGroups named = ask-strongest named
-questionOf AllGroups named = ask-all named
-questionOf (GroupLinks a b k) named = ask-links k a b
+use Rattle.desk.specs.declared.Desk.{Desk}
 
 -- the desk after a reply
 abbrev pub deskAfter : Desk → CReply → Desk

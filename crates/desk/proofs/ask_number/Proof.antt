@@ -1,10 +1,10 @@
--- `question::desk::ask_number` meets its contract. Assumes nothing.
+-- `desk::ask_number` meets its contract. Assumes nothing.
 use mathlib.Core.List.{[]}
-use Rattle.question.specs.Desk.{questionOf}
-use Rattle.question.specs.DeskBytes.{nothing-back}
+use Rattle.question.specs.Asked.{questionOf}
+use Rattle.desk.specs.DeskBytes.{nothing-back}
 use borrow.Author.Needs.{needs}
-use Rattle.question.proofs.desk.ask_number.Statement.{statement}
-use Rattle.question.proofs.desk.ask_number.Tie as tie
+use Rattle.desk.proofs.ask_number.Statement.{statement}
+use Rattle.desk.proofs.ask_number.Tie as tie
 
 slice-aggregate-ask-bytes : tie.Need-slice-aggregate-ask-bytes
 slice-aggregate-ask-bytes c = search needs

@@ -3,23 +3,23 @@ use mathlib.Core.Path.{_≡_, refl, sym, ap, _∙_}
 use mathlib.Core.Logic.{_≢_}
 use mathlib.Core.Bool.{Bool, true, false}
 use mathlib.Core.List.{List, [], _∷_, _++_}
-use Prim.Native.Nat.{ℕ, _+_, _≤_, _<_}
+use Prim.Native.Nat.{ℕ, _≤_, _<_}
 use native.Mathlib.Omega.{arith}
-use lib.Dec.{eqb, ltb}
+use lib.Dec.{ltb}
 use lib.ListN.{length}
-use borrow.Author.Tests.{lt-ltb, le-ltb, eq-eqb}
+use borrow.Author.Tests.{lt-ltb, le-ltb}
 use Rattle.truss.specs.Limits.{tallyLength}
 use Rattle.truss.specs.Graph.{Graph}
 use Rattle.truss.specs.Refusal.{Checked, passed, refused, refuse, refuseIf, andThen}
 use Rattle.truss.specs.IndexFile.{readIndex}
 use Rattle.truss.specs.Question.{Question, Answer, answer}
-use Rattle.truss.specs.Call.{Asked, AskedBytes, withRoom, overwrite, answerBytes, checkedAnswer, nextTally, settle, ask, tallyBytes, tallyIn, checkDesk, settleBytes, askBytes}
+use Rattle.truss.specs.Call.{Asked, AskedBytes, withRoom, overwrite, answerBytes, checkedAnswer, settle, ask, tallyBytes, tallyIn, checkDesk, settleBytes, askBytes}
 use Rattle.index.specs.declared.Reply.{Reply as CReply}
 use Rattle.index.specs.Build.{replyIn, Replies, reply-same}
 use Rattle.wire.specs.Writing.{written, written-start}
-use Rattle.question.specs.declared.desk.Desk.{Desk}
+use Rattle.desk.specs.declared.Desk.{Desk}
 use Rattle.question.specs.Replies.{NotZero, asked, AnswerGives, checked-not-zero}
-use Rattle.question.specs.Desk.{deskAfter}
+use Rattle.desk.specs.Desk.{AskGives}
 
 abbrev pub askedBytes : CReply → List ℕ → List ℕ → AskedBytes
 askedBytes r out desk = record { reply = replyIn r; buffer = out; desk = desk }
@@ -35,36 +35,38 @@ unfolding checkDesk andThen
 long-enough (passed a) desk l = rw (le-ltb (length desk) tallyLength l) refl
 long-enough (refused r) desk l = refl
 
-settled-bytes : (x : Checked Answer) (out desk : List ℕ) → NotZero x → {r : CReply} {out′ : List ℕ} → asked r out′ (tallyIn desk) ≡ settle x out (tallyIn desk)
+settled-bytes : (x : Checked Answer) (out desk : List ℕ) → NotZero x → {r : CReply} {out′ : List ℕ} {t : ℕ} → _≡_ {A = Asked} (record { reply = replyIn r; buffer = out′; tally = t }) (settle x out (tallyIn desk))
     → (r .refusal ≢ 0 → askedBytes r out′ desk ≡ settleBytes x out desk)
-    × ((desk′ : List ℕ) → r .refusal ≡ 0 → desk′ ≡ overwrite (tallyBytes (nextTally (tallyIn desk))) desk → askedBytes r out′ desk′ ≡ settleBytes x out desk)
+    × ((desk′ : List ℕ) → r .refusal ≡ 0 → desk′ ≡ overwrite (tallyBytes t) desk → askedBytes r out′ desk′ ≡ settleBytes x out desk)
 unfolding settle settleBytes NotZero
-settled-bytes (passed a) out desk n {r} {out′} q =
+settled-bytes (passed a) out desk n {r} {out′} {t} q =
     let z : r .refusal ≡ 0 = ap (λ (y : Asked). y .reply .refusal) q in
     let e = ap (λ (y : Asked). y .reply) q in
     let f = ap (λ (y : Asked). y .buffer) q in
-    ((λ nz. absurd (nz z)), (λ desk′ _ u. λ i. record { reply = e i; buffer = f i; desk = u i }))
+    let g = ap (λ (y : Asked). overwrite (tallyBytes (y .tally)) desk) q in
+    ((λ nz. absurd (nz z)), (λ desk′ _ u. let w = u ∙ g in λ i. record { reply = e i; buffer = f i; desk = w i }))
 settled-bytes (refused x) out desk n {r} {out′} q =
     let z : r .refusal ≡ x .number = ap (λ (y : Asked). y .reply .refusal) q in
     let e = ap (λ (y : Asked). y .reply) q in
     let f = ap (λ (y : Asked). y .buffer) q in
     ((λ _. λ i. record { reply = e i; buffer = f i; desk = desk }), (λ desk′ w _. absurd (omega (arith, w, z, n))))
 
-module _ (b : List ℕ) (q : Question) (out desk : List ℕ) (l : tallyLength ≤ length desk) {r : CReply} {out′ : List ℕ} (A : AnswerGives b q out r out′) where
-  pub desk-stays : r .refusal ≢ 0 → AskBytesGives b q out desk r out′ desk
-  unfolding askBytes ask
-  desk-stays n = settled-bytes (checkedAnswer b q out) out desk (checked-not-zero b q out) (A (tallyIn desk)) .0 n ∙ ap (λ (x : Checked Answer). settleBytes x out desk) (sym (long-enough (checkedAnswer b q out) desk l))
+-- from what the desk that was read from the record gives
+module _ (b : List ℕ) (q : Question) (out desk : List ℕ) (l : tallyLength ≤ length desk) {d e : Desk} {r : CReply} {out′ : List ℕ} (t : d .tally ≡ tallyIn desk) (A : AskGives d b q out r out′ e) where
+  from-record : _≡_ {A = Asked} (record { reply = replyIn r; buffer = out′; tally = e .tally }) (settle (checkedAnswer b q out) out (tallyIn desk))
+  unfolding ask
+  from-record = A ∙ ap (settle (checkedAnswer b q out) out) t
 
-  -- the tally moved, and was written over the record's front
-  pub desk-moves : {d e : Desk} {desk′ : List ℕ} → r .refusal ≡ 0 → d .tally ≡ tallyIn desk → e ≡ deskAfter d r → desk′ ≡ written desk 0 (tallyBytes (e .tally)) → AskBytesGives b q out desk r out′ desk′
-  unfolding askBytes ask
-  desk-moves {d} {e} {desk′} z t m u =
-      settled-bytes (checkedAnswer b q out) out desk (checked-not-zero b q out) (A (tallyIn desk)) .1 desk′ z
-      (u ∙ written-start desk (tallyBytes (e .tally)) ∙ ap (λ (x : ℕ). overwrite (tallyBytes x) desk) moved)
-      ∙ ap (λ (x : Checked Answer). settleBytes x out desk) (sym (long-enough (checkedAnswer b q out) desk l))
-    where
-      moved : e .tally ≡ nextTally (tallyIn desk)
-      moved = ap (λ (x : Desk). x .tally) m ∙ rw (eq-eqb (r .refusal) 0 z) (ap nextTally t)
+  to-record : settleBytes (checkedAnswer b q out) out desk ≡ askBytes b q out desk
+  unfolding askBytes
+  to-record = ap (λ (x : Checked Answer). settleBytes x out desk) (sym (long-enough (checkedAnswer b q out) desk l))
+
+  pub desk-stays : r .refusal ≢ 0 → AskBytesGives b q out desk r out′ desk
+  desk-stays n = settled-bytes (checkedAnswer b q out) out desk (checked-not-zero b q out) from-record .0 n ∙ to-record
+
+  -- the tally after it was written over the record's front
+  pub desk-moves : {desk′ : List ℕ} → r .refusal ≡ 0 → desk′ ≡ written desk 0 (tallyBytes (e .tally)) → AskBytesGives b q out desk r out′ desk′
+  desk-moves {desk′} z u = settled-bytes (checkedAnswer b q out) out desk (checked-not-zero b q out) from-record .1 desk′ z (u ∙ written-start desk (tallyBytes (e .tally))) ∙ to-record
 
 -- ---- one that is too short: 12, if nothing else is met; so an empty buffer tells as much
 

@@ -1,12 +1,12 @@
--- `question::desk::ask_without_desk` meets its contract. Assumes nothing.
+-- `desk::ask_without_desk` meets its contract. Assumes nothing.
 use mathlib.Core.Path.{sym, subst}
 use mathlib.Core.List.{List}
 use Prim.Native.Nat.{ℕ}
-use Rattle.question.specs.Desk.{questionOf}
-use Rattle.question.specs.DeskBytes.{AskBytesGives, short-refused, short-12, nil-front}
+use Rattle.question.specs.Asked.{questionOf}
+use Rattle.desk.specs.DeskBytes.{AskBytesGives, short-refused, short-12, nil-front}
 use borrow.Author.Needs.{needs}
-use Rattle.question.proofs.desk.ask_without_desk.Statement.{statement}
-use Rattle.question.proofs.desk.ask_without_desk.Tie as tie
+use Rattle.desk.proofs.ask_without_desk.Statement.{statement}
+use Rattle.desk.proofs.ask_without_desk.Tie as tie
 
 slice-relend-prefix-answer : tie.Need-slice-relend-prefix-answer
 slice-relend-prefix-answer c = search needs

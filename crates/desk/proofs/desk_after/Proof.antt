@@ -1,9 +1,9 @@
--- `question::desk::desk_after` meets its contract. Assumes nothing.
-use Rattle.question.specs.Desk.{tally-rests, tally-moves}
+-- `desk::desk_after` meets its contract. Assumes nothing.
+use Rattle.desk.specs.Desk.{tally-rests, tally-moves}
 use borrow.Author.Tests.{eq-eqb, ne-eqb}
 use borrow.Author.Needs.{needs}
-use Rattle.question.proofs.desk.desk_after.Statement.{statement}
-use Rattle.question.proofs.desk.desk_after.Tie as tie
+use Rattle.desk.proofs.desk_after.Statement.{statement}
+use Rattle.desk.proofs.desk_after.Tie as tie
 
 returns : tie.Need-returns
 returns c = rw (ne-eqb _ 0 (c .if1 .taken))

@@ -1,4 +1,4 @@
--- `question::desk::ask` meets its contract: a walk of its MIR, by hand. The slices and the question go to `answer`, the `&mut` slice for good; the
+-- `desk::ask` meets its contract: a walk of its MIR, by hand. The slices and the question go to `answer`, the `&mut` slice for good; the
 -- desk's borrow is opened, the desk is read whole, `desk_after` is called with it and the reply, its result is stored, and the borrow is closed.
 -- All that it knows of the two callees is that each meets its contract, and it names no field of the desk, no field of the reply and no case of the
 -- question: another desk and other questions change `answer`, `desk_after` and the definitions, and nothing here.
@@ -44,29 +44,30 @@ use denote.Triple.Spec.{Meets, tripleOf}
 use denote.Triple.Table.{entered, cited}
 use denote.Triple.Walked.{says, Stays, stay-ref, stay-none, stay-none-slice, gave-slice, walkOf, AllGo, goes-none, goes-none-slice, goes-gave-slice, goes-ref, Walks, ends-at, walked, walk-meets}
 use denote.Exit.{yes}
 use Rattle.question.specs.Replies.{AnswerGives}
-use Rattle.question.specs.Desk.{questionOf, deskAfter, ask-gives}
+use Rattle.question.specs.Asked.{questionOf}
+use Rattle.desk.specs.Desk.{deskAfter, ask-gives}
 use Rattle.question.specs.declared.answer.Question.{Question}
 use Rattle.question.proofs.answer.Question as Q
 use Rattle.question.proofs.answer.Question.Laws as Q′
 use Rattle.index.specs.declared.Reply.{Reply}
 use Rattle.index.proofs.Reply as R
 use Rattle.index.proofs.Reply.Laws as R′
-use Rattle.question.specs.declared.desk.Desk.{Desk}
-use Rattle.question.proofs.desk.Desk as T
-use Rattle.question.proofs.desk.Desk.Laws as T′
+use Rattle.desk.specs.declared.Desk.{Desk}
+use Rattle.desk.proofs.Desk as T
+use Rattle.desk.proofs.Desk.Laws as T′
 use Rattle.question.proofs.answer.answer as answer
 use Rattle.question.proofs.answer.answer.Symbol as answer-def
 use Rattle.question.proofs.answer.answer.Symbol.{name as #answer}
 use Rattle.question.proofs.answer.answer.Met as answer-thm
-use Rattle.question.proofs.desk.desk_after as after
-use Rattle.question.proofs.desk.desk_after.Symbol as after-def
-use Rattle.question.proofs.desk.desk_after.Symbol.{name as #desk-after}
-use Rattle.question.proofs.desk.desk_after.Met as after-thm
-use Rattle.question.proofs.desk.ask.Key.{name as #ask}
-use Rattle.question.proofs.desk.ask as ask
-use Rattle.question.proofs.desk.ask.Statement as stated
-use Rattle.question.proofs.desk.ask.Code as code
+use Rattle.desk.proofs.desk_after as after
+use Rattle.desk.proofs.desk_after.Symbol as after-def
+use Rattle.desk.proofs.desk_after.Symbol.{name as #desk-after}
+use Rattle.desk.proofs.desk_after.Met as after-thm
+use Rattle.desk.proofs.ask.Key.{name as #ask}
+use Rattle.desk.proofs.ask as ask
+use Rattle.desk.proofs.ask.Statement as stated
+use Rattle.desk.proofs.ask.Code as code
 
 abbrev Ref : Type 0
 Ref = RefT (List ℕ)
@@ -277,4 +278,4 @@ ask-spec 𝓤 H 𝓜 𝓖 𝓡 =
     (tables 𝓤 H 𝓜 𝓡 code.env .C) (tables 𝓤 H 𝓜 𝓡 code.env .Λ) #ask code.function (code.unfolded 𝓤 H 𝓜 𝓡)
     (ask-meets 𝓤 H (𝓖 .A) (givenOf 𝓤 H 𝓜 𝓖) (𝓜 .mem) (𝓡 .run) (tablesOf 𝓤 H 𝓜 (tables 𝓤 H 𝓜 𝓡 code.env))
     (cited 𝓤 H (Answer 𝓤 H (𝓖 .A) (𝓜 .mem) (𝓡 .run)) 𝓜 𝓡 code.env #answer answer-def.routine code.calls-question·answer·answer (answer-thm.met 𝓤 H 𝓜 𝓖 𝓡))
-    (cited 𝓤 H (After 𝓤 H (𝓖 .A) (𝓜 .mem) (𝓡 .run)) 𝓜 𝓡 code.env #desk-after after-def.routine code.calls-question·desk·desk-after (after-thm.met 𝓤 H 𝓜 𝓖 𝓡)))
+    (cited 𝓤 H (After 𝓤 H (𝓖 .A) (𝓜 .mem) (𝓡 .run)) 𝓜 𝓡 code.env #desk-after after-def.routine code.calls-desk·desk-after (after-thm.met 𝓤 H 𝓜 𝓖 𝓡)))
