@@ -13,7 +13,7 @@ fn print_refusal(number: u32, place: u32) {
 
 // The work, over slices, so that main has no index of its own.
 fn work(links: &[u8], out: &mut [u8]) {
-    let r = index::build(links, out);
+    let r = index::build::build(links, out);
     if r.refusal != 0 {
         print_refusal(r.refusal, r.value);
         return;

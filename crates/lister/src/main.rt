@@ -3,10 +3,9 @@
 // no index of them.
 use libc::STDIN_FILENO;
 use libc::STDOUT_FILENO;
+use limits::MOST_LINKS;
+use limits::NO_GROUP;
 use listing::rows::rows;
-
-// The parent that stands for none.
-const NONE: u32 = 65535;
 
 fn print_number(x: u32) {
     io::print_decimal(STDOUT_FILENO, x as u64);
@@ -18,7 +17,7 @@ fn print_next(x: u32) {
 }
 
 fn print_parent(p: u32) {
-    if p == NONE {
+    if p == NO_GROUP as u32 {
         io::write_all(STDOUT_FILENO, b" -");
         return;
     }
@@ -67,9 +66,12 @@ fn work(index: &[u8], out: &mut [u32]) {
     print_rows(out, groups);
 }
 
-// Room for the rows of the most groups: no card has more groups than links.
-fn room() -> [u32; 12288] {
-    [0u32; 12288]
+// Numbers in the rows of the most groups: no card has more groups than links.
+const NUMBERS: usize = 6 * MOST_LINKS;
+
+// Room for them.
+fn room() -> [u32; NUMBERS] {
+    [0u32; NUMBERS]
 }
 
 fn main() {

@@ -24,7 +24,7 @@ use Rattle.laws.proofs.Members.{range-last, any-in, in-any, filter-in, in-filte
 use Rattle.laws.proofs.Lowering.{count-same}
 use Rattle.laws.proofs.Groups.{size, groupAt-eq, group-strong}
 use Rattle.laws.proofs.Stored.{groupCount, stored, stored-at, stored-in}
-use Rattle.columns.specs.Columns.{cell}
+use Rattle.columns.specs.Columns.{cell, COLUMNS}
 use Rattle.adjacency.specs.State.{Near, Kept, other, named, startAt, entry-cell}
 use Rattle.stored.specs.Rows.{graphIn, IsIndex, proper}
 use Rattle.listing.specs.Touching.{Both, both-none, both-then, bump-again, bump-first, LinkGives}
@@ -63,11 +63,11 @@ how-few p (suc i) = go (p i) (how-few p i)
 
 -- rounds 1 to i are over: column c has how many of them touched each group
 pub record Rounds (m count c i : ℕ) (p : ℕ → ℕ → Bool) (w : List ℕ) : Type 0 where
-  pub size-is : length w ≡ 16 * m
+  pub size-is : length w ≡ COLUMNS * m
   pub stamps : (h : ℕ) → h < count → cell w m 3 h ≤ i
   pub counts : (h : ℕ) → h < count → cell w m c h ≡ howMany (p h) i
 
-pub rounds-none : {m count c : ℕ} {p : ℕ → ℕ → Bool} {w : List ℕ} → length w ≡ 16 * m → ((h : ℕ) → h < count → cell w m 3 h ≡ 0) → ((h : ℕ) → h < count → cell w m c h ≡ 0) → Rounds m count c 0 p w
+pub rounds-none : {m count c : ℕ} {p : ℕ → ℕ → Bool} {w : List ℕ} → length w ≡ COLUMNS * m → ((h : ℕ) → h < count → cell w m 3 h ≡ 0) → ((h : ℕ) → h < count → cell w m c h ≡ 0) → Rounds m count c 0 p w
 unfolding howMany
 rounds-none q s z = record { size-is = q; stamps = λ h l. omega (arith, s h l); counts = λ h l. z h l }
 

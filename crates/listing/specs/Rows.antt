@@ -27,7 +27,7 @@ use Rattle.laws.proofs.Size.{index-room}
 use Rattle.laws.proofs.Tree.{group-row-at}
 use Rattle.laws.proofs.Groups.{size}
 use Rattle.laws.proofs.Stored.{groupCount, noSuchGroup, stored, stored-at, stored-in}
-use Rattle.columns.specs.Columns.{cell, store, entry}
+use Rattle.columns.specs.Columns.{cell, store, entry, COLUMNS}
 use Rattle.columns.specs.Laws.{upd-store, length-store}
 use Rattle.columns.specs.Named.{Named}
 use Rattle.columns.specs.Wiping.{Wiping, Cleaned}
@@ -36,7 +36,7 @@ use Rattle.adjacency.specs.Lists.{ListsDone}
 use Rattle.wire.specs.Writing.{written, written-start, written-length, upTo, upTo-rows, upTo-length}
 use Rattle.index.specs.declared.Reply.{Reply as CReply}
 use Rattle.index.specs.Build.{replyIn, replied, Replies, reply-same, reply-with}
-use Rattle.index.specs.Read.{Opened, pairsIn}
+use Rattle.index.specs.Open.{Opened}
 use Rattle.stored.specs.Rows.{graphIn, IsIndex, Shape, parentOf, proper, fits-groups, few, few-links, few-accounts, parent-cases, opened-index, opened-graph, opened-shape, Sized, shape-sized, sized-few}
 use Rattle.stored.specs.Rows.{long as whole-length}
 use Rattle.listing.specs.Touching.{UpGiven, Both, both-none, both-then, Small}
@@ -46,10 +46,10 @@ use Rattle.listing.specs.Counting.{memberOf, holdsOf, how-few, Rounds, r
 
 -- the first i keys stand in column 0
 pub record KeysFrom (b : List ℕ) (m i : ℕ) (w : List ℕ) : Type 0 where
-  pub size-is : length w ≡ 16 * m
+  pub size-is : length w ≡ COLUMNS * m
   pub keys : (j : ℕ) → j < i → cell w m 0 j ≡ linkAt (graphIn b) j .lo * 65536 + linkAt (graphIn b) j .hi
 
-pub keys-none : {b : List ℕ} {m : ℕ} {w : List ℕ} → length w ≡ 16 * m → KeysFrom b m 0 w
+pub keys-none : {b : List ℕ} {m : ℕ} {w : List ℕ} → length w ≡ COLUMNS * m → KeysFrom b m 0 w
 keys-none q = record { size-is = q; keys = λ j l. absurd (omega arith) }
 
 pub keys-more : {b : List ℕ} {m i x y : ℕ} {w w′ : List ℕ} → i < m → KeysFrom b m i w → x ≡ linkAt (graphIn b) i .lo → y ≡ linkAt (graphIn b) i .hi → w′ ≡ store w m 0 i (x * 65536 + y) → KeysFrom b m (i + 1) w′
@@ -74,7 +74,7 @@ key-small {b} I i l =
 
 pub record CountGiven (b : List ℕ) (n m at count : ℕ) (w : List ℕ) : Type 0 where
   pub shape : Shape b n m at count
-  pub size-is : length w ≡ 16 * m
+  pub size-is : length w ≡ COLUMNS * m
 
 pub count-few : {b : List ℕ} {n m at count : ℕ} {w : List ℕ} → CountGiven b n m at count w → (count ≤ m) × (m ≤ maxLinks) × (n ≤ maxAccounts)
 count-few A = (
@@ -185,7 +185,7 @@ module _ {b : List ℕ} {at m n count v : ℕ} {w₀ w start : List ℕ} (A : Ac
 -- ---- the whole
 
 pub record Counted (b : List ℕ) (m count : ℕ) (w : List ℕ) : Type 0 where
-  pub size-is : length w ≡ 16 * m
+  pub size-is : length w ≡ COLUMNS * m
   pub links : (h : ℕ) → h < count → cell w m 5 h ≡ length (stored (graphIn b) h .members)
   pub accounts : (h : ℕ) → h < count → cell w m 4 h ≡ howMany (holdsOf (graphIn b) h) (graphIn b .n)
 
@@ -199,7 +199,7 @@ cleaned-kept {m} {w} {w′} C = record {
 }
 
 module _ {b : List ℕ} {n m at count : ℕ} {w : List ℕ} (A : CountGiven b n m at count w) where
-  pub links-asks : {w₁ w₂ : List ℕ} → length w₁ ≡ 16 * m → Cleaned m 3 6 w₁ w₂ → LinksAsks b at m count w₂
+  pub links-asks : {w₁ w₂ : List ℕ} → length w₁ ≡ COLUMNS * m → Cleaned m 3 6 w₁ w₂ → LinksAsks b at m count w₂
   links-asks q C = record {
     given = up-given 5 A (omega arith, omega arith);
     rounds = rounds-none (C .length-is ∙ q) (λ h l. C .zero 3 h (omega arith) (omega arith) (omega (arith, l, count-few A .0))) (λ h l. C .zero 5 h (omega arith) (omega arith) (omega (arith, l, count-few A .0)));
@@ -316,7 +316,7 @@ module _ (b out : List ℕ) where
   unfolding mapPassed checkRoom andThen write
   rows-7 q R = reply-with out R ∙ rw (q, mapPassed, checkRoom, andThen, write) refl
 
-  module _ {n m joins count : ℕ} (O : Opened b n m joins count) where
+  module _ {n m at count : ℕ} (O : Opened b n m at count) where
     many : groupCount (graphIn b) ≡ count
     many = opened-shape O .groups
 
@@ -344,14 +344,11 @@ module _ (b out : List ℕ) where
         let z : replied r out′ ≡ write (checkRoom (passed (rowList (graphIn b))) out) out = rw (le-ltb (length out) (length (rowList (graphIn b))) (omega (arith, l, long))) (λ i. record { reply = v i; buffer = e i }) in
         z ∙ here-is
 
-    pub opened-counts : {w : List ℕ} → length w ≡ 16 * m → CountGiven b n m (5 + 8 * m + 6 * joins) count w
+    pub opened-counts : {w : List ℕ} → length w ≡ COLUMNS * m → CountGiven b n m at count w
     opened-counts q = record { shape = opened-shape O; size-is = q }
 
-    pub opened-rows : {w : List ℕ} → Counted b m count w → RowsAsks b (5 + 8 * m + 6 * joins) m count w
+    pub opened-rows : {w : List ℕ} → Counted b m count w → RowsAsks b at m count w
     opened-rows C = record { sized = shape-sized (opened-shape O); counted = C }
 
-    pub opened-few : (5 + 8 * m + 6 * joins ≤ 40960) × (count ≤ maxLinks)
-    opened-few =
-        let J = opened-index O in
-        let S = opened-shape O in
-        (omega (arith, S .groups-at .place, whole-length J, ap length (J .bytes), index-room (fieldAt b 1) (pairsIn b (fieldAt b 3)) (J .accepted)), omega (arith, few J, few-links J, many))
+    pub opened-few : count ≤ maxLinks
+    opened-few = let J = opened-index O in omega (arith, few J, few-links J, many)

@@ -17,7 +17,7 @@ use Rattle.laws.proofs.Numbers.{same-or-not, less-or-not}
 use Rattle.laws.proofs.Groups.{size, strengthAt}
 use Rattle.laws.proofs.Stored.{groupCount, stored}
 use Rattle.laws.proofs.Tree.{parent-rises, group-rows-length}
-use Rattle.columns.specs.Columns.{cell, store}
+use Rattle.columns.specs.Columns.{cell, store, COLUMNS}
 use Rattle.columns.specs.Laws.{upd-store, length-store, kept-column}
 use Rattle.stored.specs.Rows.{graphIn, IsIndex, ownGroup, parentOf, proper, fits-groups, parent-cases, own-cases, Sized, sized-few}
 use Rattle.listing.specs.Paths.{rising, onward, step-up, in-leads, leads-in}
@@ -74,7 +74,7 @@ touch-again {m} {count} {c} {x} {r} {y} {w} q e = record {
   else = λ h l n. left-none;
 }
 
-pub touch-first : {m count c x r y z : ℕ} {w w₁ w₂ : List ℕ} → length w ≡ 16 * m → count ≤ m → x < m → 3 < c → c < 16 → y ≡ cell w m 3 x → y ≢ r → w₁ ≡ store w m 3 x r → z ≡ cell w₁ m c x → w₂ ≡ store w₁ m c x (z + 1) → TouchOne m count c x r w w₂
+pub touch-first : {m count c x r y z : ℕ} {w w₁ w₂ : List ℕ} → length w ≡ COLUMNS * m → count ≤ m → x < m → 3 < c → c < 16 → y ≡ cell w m 3 x → y ≢ r → w₁ ≡ store w m 3 x r → z ≡ cell w₁ m c x → w₂ ≡ store w₁ m c x (z + 1) → TouchOne m count c x r w w₂
 touch-first {m} {count} {c} {x} {r} {y} {z} {w} {w₁} {w₂} sz fw l lc hc q n u e v = record {
   both = record { length-is = ap length v ∙ length-store w₁ m c x (z + 1) ∙ l₁; others = λ d j n3 nc k. cells d j ∙ kept-column w₁ m c d x j (z + 1) (λ s. nc (sym s)) l k ∙ cells₁ d j ∙ kept-column w m 3 d x j r (λ s. n3 (sym s)) l k };
   here = record {

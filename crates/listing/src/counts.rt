@@ -3,7 +3,7 @@
 ghost use mathlib.Core.Path.{_≡_};
 ghost use Prim.Native.Nat.{_+_, _*_, _<_, _≤_};
 ghost use lib.ListN.{length};
-ghost use Rattle.columns.specs.Columns.{cell};
+ghost use Rattle.columns.specs.Columns.{cell, COLUMNS};
 ghost use Rattle.stored.specs.Rows.{IsIndex, graphIn};
 ghost use Rattle.laws.proofs.Groups.{size};
 ghost use Rattle.listing.specs.Touching.{LinkGives, Small, TouchOne, UpFrom, UpGiven, UpGives};
@@ -18,6 +18,7 @@ use columns::near;
 use columns::put;
 use columns::wipe;
 use columns::wipe_all;
+use index::open::Outline;
 use limits::NO_GROUP;
 use stored::rows::group_parent;
 use stored::rows::link_group;
@@ -32,13 +33,13 @@ pub const ACCOUNTS: usize = 4;
 pub const LINKS: usize = 5;
 
 // The column after these.
-const END: usize = 6;
+const AFTER: usize = 6;
 
 // The keys of the links in column 0, as the lists of links by account ask for them.
 fn load_keys(s: &[u8], w: &mut [u32], m: usize)
     requires { ⌜ IsIndex (now s) ⌝ }
     requires { ⌜ size (graphIn (now s)) ≡ m ⌝ }
-    requires { ⌜ length (now w) ≡ 16 * m ⌝ }
+    requires { ⌜ length (now w) ≡ COLUMNS * m ⌝ }
     ensures { λ _. ⌜ KeysFrom (now (s .entry)) m m (now (w .exit)) ⌝ }
 {
     let mut i: usize = 0;
@@ -52,7 +53,7 @@ fn load_keys(s: &[u8], w: &mut [u32], m: usize)
 
 // Group x is touched in round r: column c counts it, if it is the first touch of the round.
 fn touch(w: &mut [u32], m: usize, count: usize, c: usize, x: usize, r: usize)
-    requires { ⌜ length (now w) ≡ 16 * m ⌝ }
+    requires { ⌜ length (now w) ≡ COLUMNS * m ⌝ }
     requires { ⌜ count ≤ m ⌝ }
     requires { ⌜ x < m ⌝ }
     requires { ⌜ 3 < c ⌝ }
@@ -82,7 +83,7 @@ fn touch_up(
 )
     requires { ⌜ UpGiven (now s) at m count c ⌝ }
     requires { ⌜ UpFrom count g ⌝ }
-    requires { ⌜ length (now w) ≡ 16 * m ⌝ }
+    requires { ⌜ length (now w) ≡ COLUMNS * m ⌝ }
     requires { ⌜ Small m count c (now w) ⌝ }
     requires { ⌜ r < 65536 ⌝ }
     ensures { λ _. ⌜ UpGives (now (s .entry)) m count c g r (now (w .entry)) (now (w .exit)) ⌝ }
@@ -107,7 +108,7 @@ fn touch_link(
 )
     requires { ⌜ UpGiven (now s) at m count c ⌝ }
     requires { ⌜ i < m ⌝ }
-    requires { ⌜ length (now w) ≡ 16 * m ⌝ }
+    requires { ⌜ length (now w) ≡ COLUMNS * m ⌝ }
     requires { ⌜ Small m count c (now w) ⌝ }
     requires { ⌜ r < 65536 ⌝ }
     ensures { λ _. ⌜ LinkGives (now (s .entry)) m count c i r (now (w .entry)) (now (w .exit)) ⌝ }
@@ -190,18 +191,28 @@ fn count_with(
 {
     load_keys(s, w, m);
     lists(w, m, n, start, next);
-    wipe_all(w, m, LAST, END);
+    wipe_all(w, m, LAST, AFTER);
     count_links(s, at, w, m, count);
     wipe(w, m, LAST);
     count_accounts(s, at, w, m, n, count, start);
 }
 
 // Links and accounts of each group in columns 5 and 4.
-pub fn count_all(s: &[u8], at: usize, w: &mut [u32], m: usize, n: usize, count: usize)
-    requires { ⌜ CountGiven (now s) n m at count (now w) ⌝ }
-    ensures { λ _. ⌜ Counted (now (s .entry)) m count (now (w .exit)) ⌝ }
+pub fn count_all(s: &[u8], o: Outline, w: &mut [u32])
+    requires { ⌜ CountGiven (now s) (o .n) (o .m) (o .at) (o .groups) (now w) ⌝ }
+    ensures { λ _. ⌜ Counted (now (s .entry)) (o .m) (o .groups) (now (w .exit)) ⌝ }
 {
     let mut start = account_room();
     let mut next = account_room();
-    count_with(s, at, w, m, n, count, &mut start[..n + 1], &mut next[..n]);
+    let n = o.n;
+    count_with(
+        s,
+        o.at,
+        w,
+        o.m,
+        n,
+        o.groups,
+        &mut start[..n + 1],
+        &mut next[..n],
+    );
 }

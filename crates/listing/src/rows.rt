@@ -2,7 +2,8 @@
 ghost use mathlib.Core.Path.{_≡_};
 ghost use Prim.Native.Nat.{_+_, _*_, _<_, _≤_};
 ghost use lib.ListN.{length};
-ghost use Rattle.linksfile.specs.Load.{LoadAsks};
+ghost use Rattle.columns.specs.Columns.{COLUMNS};
+ghost use Rattle.index.specs.Open.{Opened};
 ghost use Rattle.wire.specs.Writing.{upTo, written};
 ghost use Rattle.listing.specs.Rows.{RowAsks, RowsAsks, RowsGives, rowOf};
 use crate::counts::ACCOUNTS;
@@ -10,12 +11,12 @@ use crate::counts::LINKS;
 use crate::counts::count_all;
 use columns::COLUMNS;
 use columns::get;
-use index::Opening;
+use columns::room;
 use index::Reply;
 use index::answered;
-use index::open_in;
-use linksfile::FileHead;
-use linksfile::read_head;
+use index::open::Opening;
+use index::open::Outline;
+use index::open::open;
 use stored::rows::group_least;
 use stored::rows::group_parent;
 use stored::rows::group_strength;
@@ -50,43 +51,33 @@ fn put_rows(out: &mut [u32], s: &[u8], at: usize, w: &[u32], m: usize, count: us
     }
 }
 
-// The rows of bytes whose head is good, in a work space of sixteen numbers for each link.
-fn rows_in(index: &[u8], out: &mut [u32], w: &mut [u32], n: usize, m: usize) -> Reply
-    requires { ⌜ LoadAsks (now index) n m (now w) ⌝ }
+// The rows of an index of this outline.
+fn rows_of(index: &[u8], out: &mut [u32], w: &mut [u32], o: Outline) -> Reply
+    requires { ⌜ Opened (now index) (o .n) (o .m) (o .at) (o .groups) ⌝ }
+    requires { ⌜ length (now w) ≡ COLUMNS * o .m ⌝ }
     ensures { λ r. ⌜ RowsGives (now (index .entry)) (now (out .entry)) r (now (out .exit)) ⌝ }
 {
-    match open_in(index, w, n, m) {
-        Opening::NoIndex => answered(7, 0),
-        Opening::Index { joins, groups } => {
-            let len = 6 * groups;
-            if out.len() < len {
-                return answered(12, 0);
-            }
-            let at = 5 + 8 * m + 6 * joins;
-            count_all(index, at, w, m, n, groups);
-            put_rows(out, index, at, w, m, groups);
-            answered(0, len as u32)
-        }
+    let len = 6 * o.groups;
+    if out.len() < len {
+        return answered(12, 0);
     }
+    count_all(index, o, w);
+    put_rows(out, index, o.at, w, o.m, o.groups);
+    answered(0, len as u32)
 }
 
-// Room for the work space of the most links.
-fn room() -> [u32; 32768] {
-    [0u32; 32768]
-}
-
-// The rows of an index, six numbers to a stored group in the order of group numbers: strength, parent (65,535 for none), links with nested ones, accounts held,
+// The rows of an index, six numbers to a stored group in the order of group numbers: strength, parent (NO_GROUP for none), links with nested ones, accounts held,
 // lower and higher end of the least link. The value is how many numbers were written; refused are bytes that are no index (7), then a buffer that is too short
 // (12). Numbers of the buffer after the rows stay, and all stay on a refusal.
 pub fn rows(index: &[u8], out: &mut [u32]) -> Reply
     ensures { λ r. ⌜ RowsGives (now (index .entry)) (now (out .entry)) r (now (out .exit)) ⌝ }
 {
-    match read_head(index) {
-        FileHead::Refused(_) => answered(7, 0),
-        FileHead::Good { n, m } => {
-            let mut work = room();
-            let size = COLUMNS * m;
-            rows_in(index, out, &mut work[..size], n, m)
+    let mut work = room();
+    match open(index, &mut work) {
+        Opening::NoIndex => answered(7, 0),
+        Opening::Index(o) => {
+            let size = COLUMNS * o.m;
+            rows_of(index, out, &mut work[..size], o)
         }
     }
 }

@@ -95,16 +95,21 @@ fn run(w: &mut [u32], m: usize, n: usize, pairs: &[u8])
     }
 }
 
-fn room() -> [u32; 1024] {
-    [0u32; 1024]
+// The cards here are small: so many accounts and links at most.
+const SMALL: usize = 64;
+
+const WORK: usize = COLUMNS * SMALL;
+
+fn room() -> [u32; WORK] {
+    [0u32; WORK]
 }
 
 fn show(pairs: &[u8], n: usize) {
     let m = pairs.len() / 3;
-    if 64 < m {
+    if SMALL < m {
         return;
     }
-    if 64 < n {
+    if SMALL < n {
         return;
     }
     let mut work = room();

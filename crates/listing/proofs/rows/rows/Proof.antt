@@ -1,17 +1,21 @@
 -- `listing::rows::rows` meets its contract. Assumes nothing.
-use mathlib.Core.Path.{sym, ap, _∙_}
+use mathlib.Core.Path.{sym}
 use native.Mathlib.Omega.{arith}
 use lib.Seq.{length-take-le}
-use Rattle.linksfile.specs.Answers.{headOf}
-use Rattle.index.specs.Read.{no-head}
-use Rattle.index.specs.Build.{few-of}
+use Rattle.index.specs.Open.{index-links, opened-is, not-opened}
 use Rattle.listing.specs.Rows.{rows-7}
 use borrow.Author.Needs.{needs}
 use Rattle.listing.proofs.rows.rows.Statement.{statement}
 use Rattle.listing.proofs.rows.rows.Tie as tie
 
-read-head-requires : tie.Need-read-head-requires
-read-head-requires c κs = search needs
+room-requires : tie.Need-room-requires
+room-requires c κs = search needs
+
+slice-aggregate-open : tie.Need-slice-aggregate-open
+slice-aggregate-open c = search needs
+
+open-requires : tie.Need-open-requires
+open-requires c κs = search needs
 
 enum-told : tie.Need-enum-told
 enum-told c = search needs
@@ -19,51 +23,30 @@ enum-told c = search needs
 answered-requires : tie.Need-answered-requires
 answered-requires c κs = search needs
 
-enum-known-n : tie.Need-enum-known-n
-enum-known-n c = search needs
-
-room-requires : tie.Need-room-requires
-room-requires c κs = search needs
+enum-known-o : tie.Need-enum-known-o
+enum-known-o c = search needs
 
 mul-size : tie.Need-mul-size
-unfolding headOf
-mul-size c = omega (arith, few-of _ _ _ (sym (c .before .before .before .before .read-head .ensures) ∙ ap headOf (c .before .before .n .given .1)))
+mul-size c = omega (arith, index-links _ _ _ ((opened-is _ (c .before .before .before .before .before .«open» .ensures .0) (c .before .before .o .given .1)) .head))
 
 array-borrow-prefix-work : tie.Need-array-borrow-prefix-work
-unfolding headOf
-array-borrow-prefix-work c = omega (arith, few-of _ _ _ (sym (c .before .before .before .before .before .read-head .ensures) ∙ ap headOf (c .before .before .before .n .given .1)))
+array-borrow-prefix-work c = omega (arith, index-links _ _ _ ((opened-is _ (c .before .before .before .before .before .before .«open» .ensures .0) (c .before .before .before .o .given .1)) .head))
 
-slice-aggregate-rows-in : tie.Need-slice-aggregate-rows-in
-unfolding headOf
-slice-aggregate-rows-in c = sym (length-take-le _ _ (omega (arith, few-of _ _ _ (sym (c .before .before .before .before .before .before .read-head .ensures) ∙ ap headOf (c .before .before .before .before .n .given .1)))))
+slice-aggregate-rows-of : tie.Need-slice-aggregate-rows-of
+slice-aggregate-rows-of c = sym (length-take-le _ _ (omega (arith, index-links _ _ _ ((opened-is _ (c .before .before .before .before .before .before .before .«open» .ensures .0) (c .before .before .before .before .o .given .1)) .head))))
 
-rows-in-requires : tie.Need-rows-in-requires
-unfolding headOf
-rows-in-requires c κs = let h = sym (c .before .before .before .before .before .before .read-head .ensures) ∙ ap headOf (c .before .before .before .before .n .given .1) in record { head = h; size = length-take-le _ _ (omega (arith, few-of _ _ _ h)) }
+rows-of-requires : tie.Need-rows-of-requires
+rows-of-requires c κs = ((opened-is _ (c .before .before .before .before .before .before .before .«open» .ensures .0) (c .before .before .before .before .o .given .1)), length-take-le _ _ (omega (arith, index-links _ _ _ ((opened-is _ (c .before .before .before .before .before .before .before .«open» .ensures .0) (c .before .before .before .before .o .given .1)) .head))))
 
 returns : tie.Need-returns
-unfolding headOf
-returns c = rows-7 (c .before .before .before .before .before .before .args .index .now) (c .before .before .before .before .before .before .args .out .now) (no-head (c .before .before .before .before .before .before .args .index .now) _ (sym (ap headOf (c .before .enum-told .given .1)) ∙ c .before .before .before .read-head .ensures)) (c .answered .ensures)
+returns c = rows-7 (c .before .before .before .before .before .before .before .before .before .args .index .now) (c .before .before .before .before .before .before .before .before .before .args .out .now) (not-opened _ (c .before .before .before .before .«open» .ensures .0) (c .before .enum-told .given .1)) (c .answered .ensures)
 
 same-length : tie.Need-same-length
 same-length c = search needs
 
 returns-2 : tie.Need-returns-2
-returns-2 c = search needs
+returns-2 c = c .before .before .before .rows-of .ensures
 
 pub rows-spec : {M : Type 1} → statement M
 rows-spec =
-    tie.close
-    (tie.spec
-    read-head-requires
-    enum-told
-    answered-requires
-    enum-known-n
-    room-requires
-    mul-size
-    array-borrow-prefix-work
-    slice-aggregate-rows-in
-    rows-in-requires
-    returns
-    same-length
-    returns-2)
+    tie.close (tie.spec room-requires slice-aggregate-open open-requires enum-told answered-requires enum-known-o mul-size array-borrow-prefix-work slice-aggregate-rows-of rows-of-requires returns same-length returns-2)
