@@ -15,7 +15,7 @@ use Rattle.laws.proofs.Components.{label}
 use Rattle.laws.proofs.Unions.{Keeps}
 use Rattle.laws.proofs.Groups.{size, strengthAt}
 use Rattle.laws.proofs.GroupPlaces.{root-in}
-use Rattle.columns.specs.Columns.{cell, store}
+use Rattle.columns.specs.Columns.{cell, store, COLUMNS}
 use Rattle.laws.proofs.Numbers.{same-or-not}
 use Rattle.columns.specs.Laws.{stored, kept-entry}
 use Rattle.unions.specs.Space.{Columns, Frame, parents, roots, Steady, steady-none, steady-trans, steady-wide, steady-store}
@@ -120,7 +120,7 @@ mark-done {m} {e} {k} {x} {r} {w} {w₁} {w₂} ask ex q F put = rw put (record 
   state = λ G n P. at G n P;
 })
   where
-    size₁ : length w₁ ≡ 16 * m
+    size₁ : length w₁ ≡ COLUMNS * m
     size₁ = F .steady .frame .length-is ∙ ask .2 .at .given .size-is
 
     here : cell (store w₁ m 15 r k) m 15 r ≡ k

@@ -16,7 +16,7 @@ use Rattle.laws.proofs.Groups.{size, strengthAt}
 use Rattle.laws.proofs.Stored.{groupCount, stored, stored-in}
 use Rattle.laws.proofs.Sides.{InOrder}
 use Rattle.laws.proofs.GroupPlaces.{IsGroup, ParentSo, open-yet, known, ownOf, own-group, group-once, group-holds, held-marked, least-in, parent-found, parent-passed}
-use Rattle.columns.specs.Columns.{cell, store}
+use Rattle.columns.specs.Columns.{cell, store, COLUMNS}
 use Rattle.laws.proofs.Numbers.{same-or-not}
 use Rattle.columns.specs.Laws.{stored as stored-cell, kept-entry}
 use Rattle.unions.specs.Space.{Columns, Steady, steady-none, steady-trans, steady-wide, steady-store}
@@ -252,7 +252,7 @@ module _ {m k g x l r : ℕ} {w w₁ : List ℕ} (ex : x ≡ cell w m 12 g) (q :
         (subst (ParentSo G o fits k g) (ex ∙ sym (F .steady .frame .same 12 refl g gm)) (parent-none-here P ez ne));
   }
 
-  pub adopt-done : {z h : ℕ} {w₂ : List ℕ} → z ≡ cell w₁ m 15 r → z ≡ k → h ≡ cell w₁ m 14 r → g < m → length w ≡ 16 * m → w₂ ≡ store w₁ m 12 g h → AdoptGives m k g w w₂
+  pub adopt-done : {z h : ℕ} {w₂ : List ℕ} → z ≡ cell w₁ m 15 r → z ≡ k → h ≡ cell w₁ m 14 r → g < m → length w ≡ COLUMNS * m → w₂ ≡ store w₁ m 12 g h → AdoptGives m k g w w₂
   adopt-done {z} {h} {w₂} ez s eh gm size put = rw put (record {
     steady = steady;
     others = others;

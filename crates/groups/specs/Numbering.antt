@@ -14,7 +14,7 @@ use Rattle.laws.proofs.Groups.{size, strengthAt}
 use Rattle.laws.proofs.Stored.{stored}
 use Rattle.laws.proofs.Sides.{InOrder}
 use Rattle.laws.proofs.GroupPlaces.{Marked, IsGroup, Counted, ParentSo, open-yet, stored-marked, marked-stored, counted-skip, counted-next, counted-group, group-room}
-use Rattle.columns.specs.Columns.{cell, store}
+use Rattle.columns.specs.Columns.{cell, store, COLUMNS}
 use Rattle.laws.proofs.Numbers.{same-or-not}
 use Rattle.columns.specs.Laws.{stored as stored-cell, kept-entry, kept-column, length-store}
 use Rattle.unions.specs.Space.{Columns, Frame, frame-none, frame-trans, frame-store}
@@ -114,16 +114,16 @@ number-done {m} {r} {k} {c} {x} {w} {w′} ask ex q put = rw put (record { frame
     frame = frame-trans (frame-store numbering w m 14 r c refl rm)
         (frame-trans (frame-store numbering w₁ m 11 c k refl cm) (frame-trans (frame-store numbering w₂ m 12 c 65535 refl cm) (frame-store numbering w₃ m 13 c r refl cm)))
 
-    s₀ : length w ≡ 16 * m
+    s₀ : length w ≡ COLUMNS * m
     s₀ = ask .4 .at .given .size-is
 
-    s₁ : length w₁ ≡ 16 * m
+    s₁ : length w₁ ≡ COLUMNS * m
     s₁ = length-store w m 14 r c ∙ s₀
 
-    s₂ : length w₂ ≡ 16 * m
+    s₂ : length w₂ ≡ COLUMNS * m
     s₂ = length-store w₁ m 11 c k ∙ s₁
 
-    s₃ : length w₃ ≡ 16 * m
+    s₃ : length w₃ ≡ COLUMNS * m
     s₃ = length-store w₂ m 12 c 65535 ∙ s₂
 
     new11 : cell w₄ m 11 c ≡ k
@@ -223,5 +223,5 @@ pub numbers-all : {m k r c c′ : ℕ} {w w′ : List ℕ} → r ≡ m → Numbe
 numbers-all {m} {k} {r} {c} {c′} {w} {w′} q S = subst (λ (z : ℕ). NumbersGives m k z c c′ w w′) q S
 
 -- a store leaves the size
-pub put-size : (w : List ℕ) (m c i x : ℕ) {w′ : List ℕ} → w′ ≡ store w m c i x → length w ≡ 16 * m → length w′ ≡ 16 * m
+pub put-size : (w : List ℕ) (m c i x : ℕ) {w′ : List ℕ} → w′ ≡ store w m c i x → length w ≡ COLUMNS * m → length w′ ≡ COLUMNS * m
 put-size w m c i x q s = rw q (length-store w m c i x ∙ s)

@@ -2,6 +2,7 @@
 ghost use mathlib.Core.Path.{_≡_};
 ghost use Prim.Native.Nat.{_*_, _≤_};
 ghost use lib.ListN.{length};
+ghost use Rattle.columns.specs.Columns.{COLUMNS};
 ghost use Rattle.groups.specs.Tree.{LevelsAsks, LevelsGives, WorkAsks, WorkGives};
 ghost use Rattle.groups.specs.Whole.{Ends, Tidied, TreeAsks, TreeGives};
 use crate::level::group;
@@ -62,7 +63,7 @@ fn work(w: &mut [u32], m: usize, n: usize, row: &mut [u32], mark: &mut [u32]) ->
 
 // The unused ends of the columns of joins and groups at 0.
 fn wipe_ends(w: &mut [u32], m: usize, joins: usize, groups: usize)
-    requires { ⌜ length (now w) ≡ 16 * m ⌝ }
+    requires { ⌜ length (now w) ≡ COLUMNS * m ⌝ }
     requires { ⌜ joins ≤ m ⌝ }
     requires { ⌜ groups ≤ m ⌝ }
     requires { ⌜ m ≤ 65535 ⌝ }
@@ -77,7 +78,7 @@ fn wipe_ends(w: &mut [u32], m: usize, joins: usize, groups: usize)
 
 // All that is no result at 0.
 fn tidy(w: &mut [u32], m: usize, joins: usize, groups: usize)
-    requires { ⌜ length (now w) ≡ 16 * m ⌝ }
+    requires { ⌜ length (now w) ≡ COLUMNS * m ⌝ }
     requires { ⌜ joins ≤ m ⌝ }
     requires { ⌜ groups ≤ m ⌝ }
     requires { ⌜ m ≤ 65535 ⌝ }

@@ -10,7 +10,7 @@ use Rattle.truss.specs.Graph.{Graph, Pair, graphOf}
 use Rattle.truss.specs.Refusal.{Checked, passed, refuse}
 use Rattle.truss.specs.LinksFile.{accepted, readPairs}
 use Rattle.laws.proofs.Numbers.{same-or-not}
-use Rattle.columns.specs.Columns.{cell, store}
+use Rattle.columns.specs.Columns.{cell, store, COLUMNS}
 use Rattle.columns.specs.Laws.{kept-column, length-store}
 use Rattle.columns.specs.Named.{Named}
 use Rattle.columns.specs.Wiping.{Wiping}
@@ -53,7 +53,7 @@ pub record LoadClears (b : List ℕ) (n m number place : ℕ) (w w′ : List ℕ
   pub outcome : faultOf number place ≡ forget (readPairs b n m 5 [])
   pub no-place : number ≡ 0 → place ≡ 0
   pub named : (ps : List Pair) → readPairs b n m 5 [] ≡ accepted n ps → Named (graphOf n ps) m n w′
-  pub length-is : length w′ ≡ 16 * m
+  pub length-is : length w′ ≡ COLUMNS * m
   pub no-keys : number ≢ 0 → (y : ℕ) → y < m → cell w′ m 0 y ≡ 0
   pub rows : (d y : ℕ) → 1 ≤ d → d < 4 → y < m → cell w′ m d y ≡ 0
   pub file : (y : ℕ) → y < m → cell w′ m 14 y ≡ 0

@@ -13,7 +13,7 @@ use Rattle.laws.proofs.Members.{Sorted, map-in, in-map, sort-in, in-sort, sort-
 use Rattle.laws.proofs.Sets.{map-range-at}
 use Rattle.laws.proofs.Ordering.{Distinct, NotAfter, lower, tied, not-after-trans, not-after-antisym, before-yes, before-no, sorted-unique, sort-distinct}
 use Rattle.laws.proofs.Accepted.{GoodPairs, graph-proper, links-distinct}
-use Rattle.columns.specs.Columns.{cell}
+use Rattle.columns.specs.Columns.{cell, COLUMNS}
 use Rattle.columns.specs.Named.{Named}
 use Rattle.linksfile.specs.Records.{keyOf}
 
@@ -103,7 +103,7 @@ module _ {n m : ℕ} {ps : List Pair} {f : ℕ → ℕ} (R : Row n m ps f) where
       ap (λ (xs : List Link). getD xs i (link 0 0)) (sym links-are) ∙ map-range-at (λ (j : ℕ). linkOfKey (f j)) (link 0 0) 0 m i l
       ∙ ap (λ (j : ℕ). linkOfKey (f j)) (omega arith)
 
-  pub row-named : {w : List ℕ} → m ≤ 65535 → length w ≡ 16 * m → ((i : ℕ) → i < m → cell w m 0 i ≡ f i) → Named (graphOf n ps) m n w
+  pub row-named : {w : List ℕ} → m ≤ 65535 → length w ≡ COLUMNS * m → ((i : ℕ) → i < m → cell w m 0 i ≡ f i) → Named (graphOf n ps) m n w
   unfolding graphOf L
   row-named few size keys = record {
     proper = graph-proper n ps (R .good);

@@ -8,11 +8,11 @@ use lib.ListN.{length, getD}
 use Rattle.laws.proofs.UnionFind.{Down, rootOf}
 use Rattle.laws.proofs.Unions.{root-stop}
 use Rattle.laws.proofs.Halving.{root-parent}
-use Rattle.columns.specs.Columns.{cell, store}
+use Rattle.columns.specs.Columns.{cell, store, COLUMNS}
 use Rattle.unions.specs.Space.{Steady, steady-none, steady-trans, steady-halve, roots, root, parents, parent-at}
 
 pub record FindPre (m x : ℕ) (w : List ℕ) : Type 0 where
-  pub size : length w ≡ 16 * m
+  pub size : length w ≡ COLUMNS * m
   pub few : m ≤ 65535
   pub below : x < m
   pub down : Down (parents w m)

@@ -10,7 +10,7 @@ use Rattle.truss.specs.Graph.{Graph}
 use Rattle.truss.specs.Forest.{allJoins}
 use Rattle.laws.proofs.Halving.{same-parent}
 use Rattle.laws.proofs.Kruskal.{spot}
-use Rattle.columns.specs.Columns.{cell, store}
+use Rattle.columns.specs.Columns.{cell, store, COLUMNS}
 use Rattle.columns.specs.Laws.{kept-entry, kept-column}
 use Rattle.unions.specs.Space.{JoinsEnd, joins-end-none, joins-end-frame, joins-end-trans, Frame, frame-none, frame-trans, frame-wide, roots, joining, roots-joining, parents, parent-at, root, steady-trans}
 use Rattle.unions.specs.Find.{FindPre, Found}
@@ -38,7 +38,7 @@ pub record UnitePre (m a b e f k j : ℕ) (w : List ℕ) : Type 0 where
   pub room : j < m
   pub few : m ≤ 65535
   pub light : k ≤ 65535
-  pub size : length w ≡ 16 * m
+  pub size : length w ≡ COLUMNS * m
 
 abbrev pub united : ℕ → ℕ → ℕ → ℕ → ℕ → ℕ → ℕ → List ℕ → List ℕ
 united m a b e f k j w = store (store (store w m 6 (max a b) (min a b)) m 9 j (e * 65536 + f)) m 10 j k

@@ -15,7 +15,7 @@ use Rattle.laws.proofs.Lists.{true-not-false, or-left-false, or-right-false}
 use Rattle.laws.proofs.Members.{range-length}
 use Rattle.laws.proofs.Sets.{map-range-at}
 use Rattle.laws.proofs.Halving.{halve-down, halve-roots}
-use Rattle.columns.specs.Columns.{cell, store}
+use Rattle.columns.specs.Columns.{cell, store, COLUMNS}
 use Rattle.laws.proofs.Numbers.{same-or-not}
 use Rattle.columns.specs.Laws.{Same, stored, kept-entry, kept-column, length-store}
 
@@ -122,7 +122,7 @@ parents-same w w′ m h =
     ext-getD 0 (parents w′ m) (parents w m) (parents-length w′ m ∙ sym (parents-length w m)) (λ i l.
     let k : i < m = omega (arith, l, parents-length w′ m) in parent-at w′ m i k ∙ h i k ∙ sym (parent-at w m i k))
 
-pub parents-store : (w : List ℕ) (m i x : ℕ) → i < m → length w ≡ 16 * m → parents (store w m 6 i x) m ≡ set (parents w m) i x
+pub parents-store : (w : List ℕ) (m i x : ℕ) → i < m → length w ≡ COLUMNS * m → parents (store w m 6 i x) m ≡ set (parents w m) i x
 parents-store w m i x l size =
     ext-getD 0 (parents w₁ m) (set (parents w m) i x) (parents-length w₁ m ∙ sym (parents-length w m) ∙ sym (length-set (parents w m) i x)) at
   where
@@ -174,7 +174,7 @@ pub steady-store : (t : Columns) (w : List ℕ) (m c i x : ℕ) → t c ≡ true
 steady-store t w m c i x h n l = steady-frame (frame-store t w m c i x h l) (λ y k. kept-column w m c 6 i y x n l k)
 
 -- a point is hung under its parent's parent
-pub steady-halve : (w : List ℕ) (m x p q : ℕ) → x < m → length w ≡ 16 * m → Down (parents w m) → p ≡ cell w m 6 x → q ≡ cell w m 6 p → Steady roots m w (store w m 6 x q)
+pub steady-halve : (w : List ℕ) (m x p q : ℕ) → x < m → length w ≡ COLUMNS * m → Down (parents w m) → p ≡ cell w m 6 x → q ≡ cell w m 6 p → Steady roots m w (store w m 6 x q)
 steady-halve w m x p q l size d ep eq = record {
   frame = frame-store roots w m 6 x q refl l;
   down = λ d′. subst Down (sym same) (halve-down (parents w m) d x in-p);

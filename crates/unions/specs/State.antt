@@ -22,7 +22,7 @@ use Rattle.laws.proofs.Groups.{size, strengthAt}
 use Rattle.laws.proofs.Sides.{InOrder, Sides, join-of, JoinOf, first-two, outer-two, last-two}
 use Rattle.laws.proofs.Kruskal
 use Rattle.laws.proofs.Kruskal.{Grown, Left, Gone, next, labelsOf, grown-skip, grown-take, room-to-take, components-append, reached, lighter, later}
-use Rattle.columns.specs.Columns.{cell, store}
+use Rattle.columns.specs.Columns.{cell, store, COLUMNS}
 use Rattle.columns.specs.Laws.{stored, kept-entry, kept-column, length-store}
 use Rattle.unions.specs.Space.{Columns, Frame, frame-trans, frame-store, joining, parents, parents-length, parents-same, parents-store, root, Steady}
 
@@ -35,7 +35,7 @@ pub record Given (G : Graph) (m n : ℕ) (w : List ℕ) : Type 0 where
   pub count : size G ≡ m
   pub few : m ≤ 65535
   pub small : n ≤ maxAccounts
-  pub size-is : length w ≡ 16 * m
+  pub size-is : length w ≡ COLUMNS * m
   pub key : (i : ℕ) → i < m → cell w m 0 i ≡ linkAt G i .lo * 65536 + linkAt G i .hi
   pub strengths : (i : ℕ) → i < m → cell w m 4 i ≡ strengthAt G i
 
