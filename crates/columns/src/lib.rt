@@ -53,7 +53,7 @@ pub const COLUMNS: usize = 16;
 pub const WORK: usize = COLUMNS * MOST_LINKS;
 
 // An entry for each account, and one more.
-pub const ROW: usize = MOST_ACCOUNTS + 1;
+pub const ACCOUNT_ROW: usize = MOST_ACCOUNTS + 1;
 
 // Two numbers below HALF share an entry: a * HALF + b.
 pub const HALF: usize = 65536;
@@ -182,8 +182,8 @@ pub fn room() -> [u32; WORK]
 }
 
 // Room for an entry of each account, and one more.
-pub fn account_room() -> [u32; ROW]
+pub fn account_room() -> [u32; ACCOUNT_ROW]
     ensures { λ r. ⌜ r ≡ zeros (maxAccounts + 1) ⌝ }
 {
-    [0u32; ROW]
+    [0u32; ACCOUNT_ROW]
 }

@@ -70,7 +70,7 @@ pub record GroupsTo (G : Graph) (o : InOrder G) (fits : size G ≤ noGroup) (m K
   pub leasts : (g : ℕ) → g < c → cell w m 13 g ≡ leastLink (stored G g)
   pub parents-so : (g : ℕ) → g < c → ParentSo G o fits K g (cell w m 12 g)
   pub owns : (i : ℕ) → i < m → K ≤ strengthAt G i → cell w m 8 i ≡ ownOf G o fits i
-  pub rest : (i : ℕ) → i < m → strengthAt G i < K → cell w m 8 i ≡ 65535
+  pub rest : (i : ℕ) → i < m → strengthAt G i < K → cell w m 8 i ≡ noGroup
   pub fresh : (r x : ℕ) → r < m → 0 < x → x < K → cell w m 15 r ≢ x
 
 pub groups-frame : {t : Columns} {G : Graph} {o : InOrder G} {fits : size G ≤ noGroup} {m K c : ℕ} {w w′ : List ℕ} → t 8 ≡ false → t 11 ≡ false → t 12 ≡ false → t 13 ≡ false → t 15 ≡ false

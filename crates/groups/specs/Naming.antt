@@ -46,7 +46,7 @@ ready-steady {t} {G} {o} {m} {n} {k} {w} {w′} a b c d s R = record {
 pub record Owned (G : Graph) (o : InOrder G) (fits : size G ≤ noGroup) (m k e : ℕ) (w : List ℕ) : Type 0 where
   pub above : (i : ℕ) → i < m → k < strengthAt G i → cell w m 8 i ≡ ownOf G o fits i
   pub here : (i : ℕ) → i < e → strengthAt G i ≡ k → cell w m 8 i ≡ ownOf G o fits i
-  pub below : (i : ℕ) → i < m → strengthAt G i < k → cell w m 8 i ≡ 65535
+  pub below : (i : ℕ) → i < m → strengthAt G i < k → cell w m 8 i ≡ noGroup
 
 pub record NamePre (G : Graph) (o : InOrder G) (fits : size G ≤ noGroup) (m n e k : ℕ) (w : List ℕ) : Type 0 where
   pub state : Owned G o fits m k e w
@@ -182,11 +182,11 @@ adopt-state {m} {k} {g} {w} {w′} s others {G} {n} {c} {o} {fits} P here = reco
     go h l (inl t) = subst (λ (z : ℕ). ParentSo G o fits k z (cell w′ m 12 z)) (sym t) here
     go h l (inr t) = subst (ParentSo G o fits k h) (sym (others h (omega (arith, l, P .g-in, P .c-in)) t)) (P .state .decided h (omega (arith, l, t)))
 
-stays : {G : Graph} {k g x : ℕ} {o : InOrder G} {fits : size G ≤ noGroup} → ParentSo G o fits (suc k) g x → x ≢ 65535 → ParentSo G o fits k g x
+stays : {G : Graph} {k g x : ℕ} {o : InOrder G} {fits : size G ≤ noGroup} → ParentSo G o fits (suc k) g x → x ≢ noGroup → ParentSo G o fits k g x
 stays (known a b) n = known a b
 stays (open-yet a b) n = absurd (n a)
 
-pub adopt-known : {m k g x : ℕ} {w : List ℕ} → x ≡ cell w m 12 g → x ≢ 65535 → AdoptGives m k g w w
+pub adopt-known : {m k g x : ℕ} {w : List ℕ} → x ≡ cell w m 12 g → x ≢ noGroup → AdoptGives m k g w w
 adopt-known {m} {k} {g} {x} {w} ex ne = record {
   steady = steady-none adopting m w;
   others = λ y l n. refl;
@@ -199,7 +199,7 @@ adopt-least {G} {m} {n} {k} {g} {c} {l} {o} P el =
     let gc : g < groupCount G = omega (arith, P .g-in, P .state .counted) in
     omega (arith, el, P .state .leasts g (P .g-in), stored-in G g gc (least-in G o g gc) .0, P .ready .at .given .count)
 
-module _ {m k g x l r : ℕ} {w w₁ : List ℕ} (ex : x ≡ cell w m 12 g) (q : x ≡ 65535) (el : l ≡ cell w m 13 g) (F : Found m l r w w₁) where
+module _ {m k g x l r : ℕ} {w w₁ : List ℕ} (ex : x ≡ cell w m 12 g) (q : x ≡ noGroup) (el : l ≡ cell w m 13 g) (F : Found m l r w w₁) where
   module _ {G : Graph} {n c : ℕ} {o : InOrder G} {fits : size G ≤ noGroup} (P : AdoptPre G o fits m n k g c w) where
     gc : g < groupCount G
     gc = omega (arith, P .g-in, P .state .counted)

@@ -87,7 +87,7 @@ pub number-room : {G : Graph} {m n r k c x : ℕ} {o : InOrder G} {fits : size G
 number-room {G} {m} {n} {r} {k} {c} {x} {o} {fits} P ex q = omega (arith, group-room G o (number-is P ex q), P .at .given .count)
 
 abbrev pub groupPut : ℕ → ℕ → ℕ → ℕ → List ℕ → List ℕ
-groupPut m r k c w = store (store (store (store w m 14 r c) m 11 c k) m 12 c 65535) m 13 c r
+groupPut m r k c w = store (store (store (store w m 14 r c) m 11 c k) m 12 c noGroup) m 13 c r
 
 pub number-done : {m r k c x : ℕ} {w w′ : List ℕ} → NumberAsks m r k c w → x ≡ cell w m 15 r → x ≡ k → w′ ≡ groupPut m r k c w → NumberGives m r k c (c + 1) w w′
 number-done {m} {r} {k} {c} {x} {w} {w′} ask ex q put = rw put (record { frame = frame; more = omega arith; state = λ G n o fits P. at G n o fits P })
@@ -105,14 +105,14 @@ number-done {m} {r} {k} {c} {x} {w} {w′} ask ex q put = rw put (record { frame
     w₂ = store w₁ m 11 c k
 
     w₃ : List ℕ
-    w₃ = store w₂ m 12 c 65535
+    w₃ = store w₂ m 12 c noGroup
 
     w₄ : List ℕ
     w₄ = store w₃ m 13 c r
 
     frame : Frame numbering m w w₄
     frame = frame-trans (frame-store numbering w m 14 r c refl rm)
-        (frame-trans (frame-store numbering w₁ m 11 c k refl cm) (frame-trans (frame-store numbering w₂ m 12 c 65535 refl cm) (frame-store numbering w₃ m 13 c r refl cm)))
+        (frame-trans (frame-store numbering w₁ m 11 c k refl cm) (frame-trans (frame-store numbering w₂ m 12 c noGroup refl cm) (frame-store numbering w₃ m 13 c r refl cm)))
 
     s₀ : length w ≡ COLUMNS * m
     s₀ = ask .4 .at .given .size-is
@@ -124,31 +124,31 @@ number-done {m} {r} {k} {c} {x} {w} {w′} ask ex q put = rw put (record { frame
     s₂ = length-store w₁ m 11 c k ∙ s₁
 
     s₃ : length w₃ ≡ COLUMNS * m
-    s₃ = length-store w₂ m 12 c 65535 ∙ s₂
+    s₃ = length-store w₂ m 12 c noGroup ∙ s₂
 
     new11 : cell w₄ m 11 c ≡ k
-    new11 = kept-column w₃ m 13 11 c c r (omega arith) cm cm ∙ kept-column w₂ m 12 11 c c 65535 (omega arith) cm cm ∙ stored-cell w₁ m 11 c k (omega arith) cm s₁
+    new11 = kept-column w₃ m 13 11 c c r (omega arith) cm cm ∙ kept-column w₂ m 12 11 c c noGroup (omega arith) cm cm ∙ stored-cell w₁ m 11 c k (omega arith) cm s₁
 
-    new12 : cell w₄ m 12 c ≡ 65535
-    new12 = kept-column w₃ m 13 12 c c r (omega arith) cm cm ∙ stored-cell w₂ m 12 c 65535 (omega arith) cm s₂
+    new12 : cell w₄ m 12 c ≡ noGroup
+    new12 = kept-column w₃ m 13 12 c c r (omega arith) cm cm ∙ stored-cell w₂ m 12 c noGroup (omega arith) cm s₂
 
     new13 : cell w₄ m 13 c ≡ r
     new13 = stored-cell w₃ m 13 c r (omega arith) cm s₃
 
     new14 : cell w₄ m 14 r ≡ c
-    new14 = kept-column w₃ m 13 14 c r r (omega arith) cm rm ∙ kept-column w₂ m 12 14 c r 65535 (omega arith) cm rm ∙ kept-column w₁ m 11 14 c r k (omega arith) cm rm ∙ stored-cell w m 14 r c (omega arith) rm s₀
+    new14 = kept-column w₃ m 13 14 c r r (omega arith) cm rm ∙ kept-column w₂ m 12 14 c r noGroup (omega arith) cm rm ∙ kept-column w₁ m 11 14 c r k (omega arith) cm rm ∙ stored-cell w m 14 r c (omega arith) rm s₀
 
     old11 : (y : ℕ) → y < m → y ≢ c → cell w₄ m 11 y ≡ cell w m 11 y
-    old11 y l n = kept-column w₃ m 13 11 c y r (omega arith) cm l ∙ kept-column w₂ m 12 11 c y 65535 (omega arith) cm l ∙ kept-entry w₁ m 11 c y k n ∙ kept-column w m 14 11 r y c (omega arith) rm l
+    old11 y l n = kept-column w₃ m 13 11 c y r (omega arith) cm l ∙ kept-column w₂ m 12 11 c y noGroup (omega arith) cm l ∙ kept-entry w₁ m 11 c y k n ∙ kept-column w m 14 11 r y c (omega arith) rm l
 
     old12 : (y : ℕ) → y < m → y ≢ c → cell w₄ m 12 y ≡ cell w m 12 y
-    old12 y l n = kept-column w₃ m 13 12 c y r (omega arith) cm l ∙ kept-entry w₂ m 12 c y 65535 n ∙ kept-column w₁ m 11 12 c y k (omega arith) cm l ∙ kept-column w m 14 12 r y c (omega arith) rm l
+    old12 y l n = kept-column w₃ m 13 12 c y r (omega arith) cm l ∙ kept-entry w₂ m 12 c y noGroup n ∙ kept-column w₁ m 11 12 c y k (omega arith) cm l ∙ kept-column w m 14 12 r y c (omega arith) rm l
 
     old13 : (y : ℕ) → y < m → y ≢ c → cell w₄ m 13 y ≡ cell w m 13 y
-    old13 y l n = kept-entry w₃ m 13 c y r n ∙ kept-column w₂ m 12 13 c y 65535 (omega arith) cm l ∙ kept-column w₁ m 11 13 c y k (omega arith) cm l ∙ kept-column w m 14 13 r y c (omega arith) rm l
+    old13 y l n = kept-entry w₃ m 13 c y r n ∙ kept-column w₂ m 12 13 c y noGroup (omega arith) cm l ∙ kept-column w₁ m 11 13 c y k (omega arith) cm l ∙ kept-column w m 14 13 r y c (omega arith) rm l
 
     old14 : (y : ℕ) → y < m → y ≢ r → cell w₄ m 14 y ≡ cell w m 14 y
-    old14 y l n = kept-column w₃ m 13 14 c y r (omega arith) cm l ∙ kept-column w₂ m 12 14 c y 65535 (omega arith) cm l ∙ kept-column w₁ m 11 14 c y k (omega arith) cm l ∙ kept-entry w m 14 r y c n
+    old14 y l n = kept-column w₃ m 13 14 c y r (omega arith) cm l ∙ kept-column w₂ m 12 14 c y noGroup (omega arith) cm l ∙ kept-column w₁ m 11 14 c y k (omega arith) cm l ∙ kept-entry w m 14 r y c n
 
     at : (G : Graph) (n : ℕ) (o : InOrder G) (fits : size G ≤ noGroup) → NumberPre G o fits m n r k c w → Numbered G o fits m k (r + 1) (c + 1) w₄
     at G n o fits P = record {

@@ -9,7 +9,7 @@ use native.Mathlib.Omega.{arith}
 use lib.Dec.{eqb, ltb, leb}
 use lib.ListN.{length, getD}
 use borrow.Author.Tests.{le-leb, lt-leb, leb-true, lt-ltb, le-ltb, eq-eqb, ne-eqb}
-use Rattle.truss.specs.Limits.{minLevel, noGroup}
+use Rattle.truss.specs.Limits.{minLevel, noGroup, maxNamed}
 use Rattle.truss.specs.Lists.{any, all}
 use Rattle.truss.specs.Graph.{Graph}
 use Rattle.truss.specs.Group.{Group, groups}
@@ -41,14 +41,14 @@ module _ (named : List ℕ) where
   pub none-named : length named ≡ 0 → badCount named ≡ true
   none-named z = rw (eq-eqb (length named) 0 z) refl
 
-  pub many-named : length named ≢ 0 → 32 < length named → badCount named ≡ true
-  many-named n l = rw (ne-eqb (length named) 0 n, lt-ltb 32 (length named) l) refl
+  pub many-named : length named ≢ 0 → maxNamed * 2 < length named → badCount named ≡ true
+  many-named n l = rw (ne-eqb (length named) 0 n, lt-ltb (maxNamed * 2) (length named) l) refl
 
-  pub odd-named : length named ≢ 0 → length named ≤ 32 → length named % 2 ≡ 1 → badCount named ≡ true
-  odd-named n l o = rw (ne-eqb (length named) 0 n, le-ltb 32 (length named) l, eq-eqb (length named % 2) 1 o) refl
+  pub odd-named : length named ≢ 0 → length named ≤ maxNamed * 2 → length named % 2 ≡ 1 → badCount named ≡ true
+  odd-named n l o = rw (ne-eqb (length named) 0 n, le-ltb (maxNamed * 2) (length named) l, eq-eqb (length named % 2) 1 o) refl
 
-  pub good-named : length named ≢ 0 → length named ≤ 32 → length named % 2 ≢ 1 → badCount named ≡ false
-  good-named n l o = rw (ne-eqb (length named) 0 n, le-ltb 32 (length named) l, ne-eqb (length named % 2) 1 o) refl
+  pub good-named : length named ≢ 0 → length named ≤ maxNamed * 2 → length named % 2 ≢ 1 → badCount named ≡ false
+  good-named n l o = rw (ne-eqb (length named) 0 n, le-ltb (maxNamed * 2) (length named) l, ne-eqb (length named % 2) 1 o) refl
 
   pub half-named : length named % 2 ≢ 1 → length named ≡ 2 * (length named / 2)
   half-named o = omega (arith, o)
@@ -111,11 +111,11 @@ pub record GoodNames (G : Graph) (n k : ℕ) (named : List ℕ) : Type 0 where
   pub good-count : badCount named ≡ false
   pub inside : outside G (accountsIn named) ≡ false
 
-count-good : (named : List ℕ) → badCount named ≡ false → (length named ≡ 2 * (length named / 2)) × (0 < length named / 2) × (length named / 2 ≤ 16)
-count-good named f = go (same-or-not (length named) 0) (less-or-not 32 (length named)) (same-or-not (length named % 2) 1)
+count-good : (named : List ℕ) → badCount named ≡ false → (length named ≡ 2 * (length named / 2)) × (0 < length named / 2) × (length named / 2 ≤ maxNamed)
+count-good named f = go (same-or-not (length named) 0) (less-or-not (maxNamed * 2) (length named)) (same-or-not (length named % 2) 1)
   where
-    go : (length named ≡ 0) ⊎ (length named ≢ 0) → (32 < length named) ⊎ (length named ≤ 32) → (length named % 2 ≡ 1) ⊎ (length named % 2 ≢ 1)
-        → (length named ≡ 2 * (length named / 2)) × (0 < length named / 2) × (length named / 2 ≤ 16)
+    go : (length named ≡ 0) ⊎ (length named ≢ 0) → (maxNamed * 2 < length named) ⊎ (length named ≤ maxNamed * 2) → (length named % 2 ≡ 1) ⊎ (length named % 2 ≢ 1)
+        → (length named ≡ 2 * (length named / 2)) × (0 < length named / 2) × (length named / 2 ≤ maxNamed)
     go (inl z) y x = absurd (true-not-false (none-named named z) f)
     go (inr n) (inl l) x = absurd (true-not-false (many-named named n l) f)
     go (inr n) (inr l) (inl o) = absurd (true-not-false (odd-named named n l o) f)
