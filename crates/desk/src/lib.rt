@@ -1,4 +1,4 @@
-// The desk, which counts the questions that were answered: lent as a record, or as the record's bytes by a host.
+// The desk, which counts the questions that were answered. A host lends its record as bytes; here it is a struct, which is lent to one thin function.
 ghost use mathlib.Core.List.{[]};
 ghost use mathlib.Core.Path.{_≡_};
 ghost use Prim.Native.Nat.{_≤_};
@@ -18,8 +18,8 @@ use wire::paste;
 use wire::wide;
 
 // The desk record: how many questions were answered, resting at the greatest number.
-pub struct Desk {
-    pub tally: u32,
+struct Desk {
+    tally: u32,
 }
 
 // The desk after a reply: one more if it was answered.

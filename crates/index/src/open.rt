@@ -136,7 +136,8 @@ fn open_in(s: &[u8], w: &mut [u32], n: usize, m: usize) -> Opening
     found(is, n, m, groups_place(m, joins), groups)
 }
 
-// Whether bytes are an index: its outline, if they are. What is lent for the work space is 0 in its sixteen numbers for each link that the head names.
+// Whether bytes are an index: its outline, if they are. What is lent for the work space is 0 afterwards in its sixteen numbers for each link that a good head names; the rest
+// stays.
 pub fn open(index: &[u8], work: &mut [u32]) -> Opening
     requires { ⌜ COLUMNS * maxLinks ≤ length (now work) ⌝ }
     ensures { λ r. ⌜ OpenSays (now (index .entry)) r ⌝ }

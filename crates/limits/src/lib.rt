@@ -20,7 +20,7 @@ pub const MOST_TALLY: u32 = 4294967295;
 
 pub const TALLY_BYTES: usize = 4;
 
-// A strength: a number from MIN to MAX. Only `of` makes one.
+// A strength: a number from MIN to MAX. Another crate gets one from `of` alone, or these two.
 pub struct Strength(usize);
 
 // What a number is as a strength.

@@ -1,4 +1,4 @@
--- The figures of document 01, each named once. A change of a limit is a change of its line here.
+-- The figures of document 01, each named once in the definitions. The code has them in the crate `limits`, which is tied to these lines; CONTRIBUTING.md says which lines a limit has.
 use Prim.Native.Nat.{ℕ}
 
 -- "n is 1 to 1,024, m is 0 to 2,048"

@@ -23,7 +23,8 @@ pub const END: u8 = 5;
 
 pub const PLAIN_LINK: u8 = 6;
 
-// The body length that a kind fixes; an unknown kind is refusal 1.
+// The body length that a kind fixes; an unknown kind is refusal 1. Today only kinds 1, 2, 5 and 6 are looked for by it, so the other arms never run: the match is the table
+// of document 01 as it stands.
 pub enum Body {
     Length(usize),
     Unknown,
