@@ -25,8 +25,8 @@ typedef struct {
 /* Bytes of a desk record that the calls use. */
 #define FE_DESK 4
 
-/* Bytes of stack that are enough for any call, below the caller's frame. Measured by tests/c/stack.c, not proved: fe_build took 156,071 of them, fe_read 147,959,
- * a question up to 148,359, and the first call of a program that binds memset only then 3,152 more. A thread needs this and what its own functions and the C library
+/* Bytes of stack that are enough for any call, below the caller's frame. Measured by tests/c/stack.c, not proved: fe_build took 156,119 of them, fe_read 148,007,
+ * a question up to 148,407, and the first call of a program that binds memset only then 3,184 more. A thread needs this and what its own functions and the C library
  * take. */
 #define FE_STACK_MAX 163840
 
