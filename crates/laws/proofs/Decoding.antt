@@ -51,7 +51,7 @@ module _ {A : Type 0} (k : ℕ) (body : A → List ℕ) (fixed : (x : A) → bod
 
 -- ---- the records of a kind
 
-filter-append : {A : Type 0} (p : A → Bool) (xs ys : List A) → filter p (xs ++ ys) ≡ filter p xs ++ filter p ys
+pub filter-append : {A : Type 0} (p : A → Bool) (xs ys : List A) → filter p (xs ++ ys) ≡ filter p xs ++ filter p ys
 unfolding filter
 filter-append p [] ys = refl
 filter-append {A} p (x ∷ xs) ys = go (p x) refl (filter-append p xs ys)

@@ -50,3 +50,6 @@ pub mod InOrder
 pub mod Kruskal
 pub mod Weights
 pub mod GroupPlaces
+-- the shortest chain between two links (question G)
+pub mod Shortest
+pub mod ShortestRoom

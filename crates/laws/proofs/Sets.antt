@@ -1,5 +1,5 @@
 -- Laws of lists that stand for sets of numbers: `every`, `contains`, `sameList`, parts of one list by two tests, sorted lists, `place`.
-use mathlib.Core.Path.{_≡_, refl, sym, ap, _∙_}
+use mathlib.Core.Path.{_≡_, refl, sym, ap, _∙_, subst}
 use mathlib.Core.Logic.{_⊎_, inl, inr, _≢_}
 use mathlib.Core.Bool.{Bool, true, false, cond}
 use mathlib.Core.List.{List, [], _∷_, _++_, map}
@@ -13,7 +13,7 @@ use borrow.Author.Tests.{eqb-true, eqb-false, eq-eqb}
 use Rattle.truss.specs.Lists.{filter, any, all, sameList, range}
 use Rattle.truss.specs.Group.{contains}
 use Rattle.laws.proofs.Lists.{test, and-left, and-right, both, true-not-false}
-use Rattle.laws.proofs.Members.{Sorted, any-in, in-any, getD-in}
+use Rattle.laws.proofs.Members.{Sorted, any-in, in-any, in-getD, getD-in}
 
 module _ {A : Type 0} where
   pub all-in : (p : A → Bool) (xs : List A) → all p xs ≡ true → {x : A} → In x xs → p x ≡ true
@@ -94,6 +94,13 @@ module _ {A : Type 0} where
   sorted-at R d (x ∷ xs) s zero (suc b) l m = s .0 (getD xs b d) (getD-in d xs b (le-of-suc-le-suc m))
   sorted-at R d (x ∷ xs) s (suc a) zero l m = absurd (not-suc-le-zero l)
   sorted-at R d (x ∷ xs) s (suc a) (suc b) l m = sorted-at R d xs (s .1) a b (le-of-suc-le-suc l) (le-of-suc-le-suc m)
+
+  pub sorted-of : (R : A → A → Type 0) (d : A) (xs : List A) → ((i j : ℕ) → i < j → j < length xs → R (getD xs i d) (getD xs j d)) → Sorted R xs
+  sorted-of R d [] h = tt
+  sorted-of R d (x ∷ xs) h = (λ y m. at y (in-getD d xs m), sorted-of R d xs (λ i j l k. h (suc i) (suc j) (omega (arith, l)) (omega (arith, k))))
+    where
+      at : (y : A) → (i : ℕ) × (i < length xs) × (getD xs i d ≡ y) → R x y
+      at y (i, l, q) = subst (R x) q (h 0 (suc i) (omega arith) (omega (arith, l)))
 
 -- ---- lists of numbers
 

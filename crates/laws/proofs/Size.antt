@@ -196,7 +196,7 @@ module _ (G : Graph) where
 
 -- ---- the length of an index
 
-concatMap-length : {A : Type 0} (f : A → List ℕ) (l : ℕ) → ((z : A) → length (f z) ≡ l) → (xs : List A) → length (concatMap f xs) ≡ length xs * l
+pub concatMap-length : {A : Type 0} (f : A → List ℕ) (l : ℕ) → ((z : A) → length (f z) ≡ l) → (xs : List A) → length (concatMap f xs) ≡ length xs * l
 unfolding concatMap
 concatMap-length f l h [] = omega arith
 concatMap-length f l h (z ∷ zs) = let r = concatMap-length f l h zs in let a = length-append (f z) (concatMap f zs) in let b = h z in omega arith

@@ -5,13 +5,13 @@ use lib.Dec.{ltb}
 use lib.ListN.{length, drop}
 use Rattle.truss.specs.Limits.{maxTally, tallyLength}
 use Rattle.truss.specs.Lists.{concatMap}
-use Rattle.truss.specs.Graph.{graphOf}
+use Rattle.truss.specs.Graph.{Triangle, graphOf}
 use Rattle.truss.specs.Refusal.{Refusal, Checked, passed, refused, refuseIf, andThen, mapPassed}
 use Rattle.truss.specs.Record.{field, byteAt}
 use Rattle.truss.specs.LinksFile.{Links, graphOfLinks, readLinks, readBack}
 use Rattle.truss.specs.Index.{indexBytes}
 use Rattle.truss.specs.IndexFile.{readIndex}
-use Rattle.truss.specs.Question.{Question, Answer, number, numbers, answer}
+use Rattle.truss.specs.Question.{Question, Answer, number, numbers, chain, answer}
 
 -- The four numbers of a reply, as the C host gets them: refusal 0 is done, with a value; else the refusal's number, with its place as the value.
 pub record Reply : Type 0 where
@@ -65,17 +65,24 @@ read bytes buffer = write (checkRoom (mapPassed readBack (readIndex bytes)) buff
 
 -- ---- questions
 
--- "C to F write a two-byte count, then that many two-byte group numbers (F: link numbers), rising." A and B write nothing.
+-- "three two-byte accounts, rising, for each triangle"
+abbrev pub triangleBytes : Triangle → List ℕ
+triangleBytes t = field (t .a) ++ field (t .b) ++ field (t .c)
+
+-- "C to F write a two-byte count, then that many two-byte group numbers (F: link numbers), rising." G: "a two-byte count and then" its triangles. A and B
+-- write nothing.
 unfoldable pub answerBytes : Answer → List ℕ
 unfolding concatMap
 answerBytes (number x) = []
 answerBytes (numbers xs) = field (length xs) ++ concatMap field xs
+answerBytes (chain ts) = field (length ts) ++ concatMap triangleBytes ts
 
--- the value of the reply: the answer of A and B, the number of bytes written by C to F
+-- the value of the reply: the answer of A and B, the number of bytes written by C to G
 unfoldable pub answerValue : Answer → ℕ
 unfolding answerBytes
 answerValue (number x) = x
 answerValue (numbers xs) = length (answerBytes (numbers xs))
+answerValue (chain ts) = length (answerBytes (chain ts))
 
 -- "A question is checked as 7, 8, 9, 10, 11, 12, those that apply."
 unfoldable pub checkedAnswer : List ℕ → Question → List ℕ → Checked Answer

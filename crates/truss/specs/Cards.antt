@@ -2,13 +2,16 @@
 use mathlib.Core.List.{List, [], _∷_, _++_}
 use Prim.Native.Nat.{ℕ}
 use Rattle.truss.specs.Lists.{concatMap}
-use Rattle.truss.specs.Graph.{Pair, Graph, graphOf}
+use Rattle.truss.specs.Graph.{Pair, Graph, Triangle, graphOf}
 use Rattle.truss.specs.Record.{kindHead, field, headBytes, endBytes}
 use Rattle.truss.specs.LinksFile.{pairBytes}
 use Rattle.truss.specs.Index.{Index, indexBytes}
 
 unfoldable pub pair : ℕ → ℕ → Pair
 pair a b = record { first = a; second = b }
+
+unfoldable pub corners : ℕ → ℕ → ℕ → Triangle
+corners a b c = record { a = a; b = b; c = c }
 
 -- a links file whose head says n and m, with these pairs and these bytes at the end
 unfoldable pub file : ℕ → ℕ → List Pair → List ℕ → List ℕ
@@ -111,6 +114,20 @@ kite = graphOf 4 (pair 0 1 ∷ pair 0 2 ∷ pair 0 3 ∷ pair 1 2 ∷ pair 2 3 �
 unfoldable pub twoApart : Graph
 unfolding pair graphOf
 twoApart = graphOf 6 (pair 0 3 ∷ pair 0 4 ∷ pair 3 4 ∷ pair 1 2 ∷ pair 1 5 ∷ pair 2 5 ∷ [])
+
+-- account 3 linked to all others, which stand in a ring 0-4-1-2-5: two ways of three triangles from 0-5 to 1-3
+unfoldable pub wheel : Graph
+unfolding pair graphOf
+wheel =
+    graphOf 6
+    (pair 0 3 ∷ pair 1 3 ∷ pair 2 3 ∷ pair 3 4 ∷ pair 3 5 ∷ pair 0 4 ∷ pair 1 4 ∷ pair 1 2 ∷ pair 2 5 ∷ pair 0 5 ∷ [])
+
+-- a strip of six triangles: 0-1-2, 1-2-3, .. 5-6-7
+unfoldable pub strip : Graph
+unfolding pair graphOf
+strip =
+    graphOf 8
+    (pair 0 1 ∷ pair 1 2 ∷ pair 2 3 ∷ pair 3 4 ∷ pair 4 5 ∷ pair 5 6 ∷ pair 6 7 ∷ pair 0 2 ∷ pair 1 3 ∷ pair 2 4 ∷ pair 3 5 ∷ pair 4 6 ∷ pair 5 7 ∷ [])
 
 -- one triangle, and its index of 48 bytes
 unfoldable pub triangle : Graph

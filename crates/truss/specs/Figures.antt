@@ -2,11 +2,11 @@
 -- of links, strength or index bytes.
 use mathlib.Core.Path.{_≡_, refl}
 use mathlib.Core.List.{[], _∷_}
-use Rattle.truss.specs.Limits.{maxAccounts, maxLinks, minStrength, maxStrength, minLevel, maxLevel, maxNamed, noGroup, maxIndexBytes, maxTally, tallyLength}
+use Rattle.truss.specs.Limits.{maxAccounts, maxLinks, minStrength, maxStrength, minLevel, maxLevel, maxNamed, noGroup, maxIndexBytes, maxChainBytes, maxTally, tallyLength}
 use Rattle.truss.specs.Refusal.{passed, refuse}
 use Rattle.truss.specs.LinksFile.{accepted, readLinks}
-use Rattle.truss.specs.Question.{answer, ask-groups-at, ask-links, numbers}
-use Rattle.truss.specs.Cards.{file, headOnly, accounts, triangle}
+use Rattle.truss.specs.Question.{answer, ask-groups-at, ask-links, ask-chain, numbers, chain}
+use Rattle.truss.specs.Cards.{corners, file, headOnly, accounts, triangle}
 
 pub record Figures : Type 0 where
   -- "n is 1 to 1,024, m is 0 to 2,048"
@@ -21,6 +21,7 @@ pub record Figures : Type 0 where
   named-are : maxNamed ≡ 16
   no-group : noGroup ≡ 65535
   index-bytes : maxIndexBytes ≡ 40960
+  chain-bytes : maxChainBytes ≡ 6140
   tally-rests : maxTally ≡ 4_294_967_295
   tally-bytes : tallyLength ≡ 4
   -- n = 1,024 is taken (1,025: Cases)
@@ -37,9 +38,13 @@ pub record Figures : Type 0 where
   F-level-3 : answer triangle (ask-links 3 1 0) ≡ passed (numbers (0 ∷ 1 ∷ 2 ∷ []))
   F-level-64 : answer triangle (ask-links 64 0 1) ≡ passed (numbers [])
   F-level-65 : answer triangle (ask-links 65 0 1) ≡ refuse 10 0
+  G-level-2 : answer triangle (ask-chain 2 0 1 1 2) ≡ refuse 10 0
+  G-level-3 : answer triangle (ask-chain 3 0 1 1 2) ≡ passed (chain (corners 0 1 2 ∷ []))
+  G-level-64 : answer triangle (ask-chain 64 0 1 1 2) ≡ passed (chain [])
+  G-level-65 : answer triangle (ask-chain 65 0 1 1 2) ≡ refuse 10 0
 
 pub figures : Figures
-unfolding triangle file headOnly accounts readLinks answer
+unfolding triangle corners file headOnly accounts readLinks answer
 figures = record {
   accounts-are = refl;
   links-are = refl;
@@ -50,6 +55,7 @@ figures = record {
   named-are = refl;
   no-group = refl;
   index-bytes = refl;
+  chain-bytes = refl;
   tally-rests = refl;
   tally-bytes = refl;
   most-accounts = refl;
@@ -63,4 +69,8 @@ figures = record {
   F-level-3 = refl;
   F-level-64 = refl;
   F-level-65 = refl;
+  G-level-2 = refl;
+  G-level-3 = refl;
+  G-level-64 = refl;
+  G-level-65 = refl;
 }

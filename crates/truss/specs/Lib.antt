@@ -8,6 +8,7 @@ pub mod Strength
 pub mod Chain
 pub mod Forest
 pub mod Group
+pub mod Shortest
 -- the two files
 pub mod Refusal
 pub mod Record
@@ -18,14 +19,16 @@ pub mod IndexFile
 pub mod Question
 pub mod Call
 pub mod Listing
--- what a refused call leaves
+-- what a refused call leaves; what question G answers
 pub mod Kept
+pub mod Ways
 -- demand 3
 pub mod Stored
 pub mod Demand3
--- the worked cases; demand 3 spelled out
+-- the worked cases; the statements spelled out
 pub mod Cards
 pub mod Cases
+pub mod ChainCases
 pub mod WholeCalls
 pub mod Figures
 pub mod Spelled

@@ -1,5 +1,5 @@
 -- The figures of document 01, each named once in the definitions. The code has them in the crate `limits`, which is tied to these lines; CONTRIBUTING.md says which lines a limit has.
-use Prim.Native.Nat.{ℕ}
+use Prim.Native.Nat.{ℕ, _+_, _*_, _-_, _/_}
 
 -- "n is 1 to 1,024, m is 0 to 2,048"
 abbrev pub maxAccounts : ℕ
@@ -34,6 +34,11 @@ noGroup = 0xFFFF
 -- "An index is at most 40,960 bytes." A theorem (laws: index-room), used in no definition.
 abbrev pub maxIndexBytes : ℕ
 maxIndexBytes = 40960
+
+-- The most bytes that an answer of G has: a count, and three accounts for each triangle, of which a shortest chain has at most half as many as there are
+-- other links. A theorem (laws: chain-room), used in no definition.
+abbrev pub maxChainBytes : ℕ
+maxChainBytes = 2 + 6 * ((maxLinks - 1) / 2)
 
 -- "resting at 4,294,967,295"; "four to a tally"
 abbrev pub maxTally : ℕ

@@ -1,4 +1,4 @@
--- The six questions on the graph of an index: answers A to F, and the checks 8 to 11.
+-- The questions on the graph of an index: answers A to G, and the checks 8 to 11.
 use mathlib.Core.Bool.{Bool, not, _&&_, _||_}
 use mathlib.Core.List.{List, [], _∷_}
 use Prim.Native.Nat.{ℕ, _*_, _%_}
@@ -6,9 +6,10 @@ use lib.Dec.{eqb, ltb, leb}
 use lib.ListN.{length, getD}
 use Rattle.truss.specs.Limits.{minLevel, maxLevel, maxNamed}
 use Rattle.truss.specs.Lists.{filter, any, all, range, largest, sameList}
-use Rattle.truss.specs.Graph.{Link, Graph, link, linkAt, ends, member, linkNumber}
+use Rattle.truss.specs.Graph.{Link, Graph, Triangle, link, linkAt, ends, member, linkNumber}
 use Rattle.truss.specs.Strength.{strength, strengthBound}
 use Rattle.truss.specs.Group.{Group, leastLink, groups, groupAt}
+use Rattle.truss.specs.Shortest.{shortestChain}
 use Rattle.truss.specs.Refusal.{Checked, passed, refuseIf}
 use Rattle.truss.specs.Record.{fromBytes}
 
@@ -64,6 +65,8 @@ unfoldable pub groupLinks : Graph → ℕ → Link → List ℕ
 unfolding groupAt linkNumber
 groupLinks G k e = groupAt G k (linkNumber G e)
 
+-- G. The shortest way between two links is `shortestChain`.
+
 -- ---- a question and its checks
 
 -- "A question names a link by its two accounts, in either order." Accounts "are lent as two bytes each".
@@ -74,11 +77,13 @@ pub data Question : Type 0 where
   ask-strongest : (accounts : List ℕ) → Question
   ask-all : (accounts : List ℕ) → Question
   ask-links : (k a b : ℕ) → Question
+  ask-chain : (k a b c d : ℕ) → Question
 
--- A and B answer with a number; C to F with group or link numbers, to be written.
+-- A and B answer with a number; C to F with group or link numbers, to be written; G with triangles, to be written.
 pub data Answer : Type 0 where
   number : ℕ → Answer
   numbers : List ℕ → Answer
+  chain : List Triangle → Answer
 
 -- the accounts that lent bytes name
 unfoldable pub accountsIn : List ℕ → List ℕ
@@ -105,7 +110,7 @@ noLink G a b = not (member (G .links) (link a b))
 
 -- "A question is checked as 7, 8, 9, 10, 11, 12, those that apply": here 8 to 11; 7 and 12 stand in Call. Each has place 0.
 unfoldable pub answer : Graph → Question → Checked Answer
-unfolding strength accountsIn outside member joinedUpTo groupsHolding strongestHolding allHolding groupLinks
+unfolding strength accountsIn outside member joinedUpTo groupsHolding strongestHolding allHolding groupLinks shortestChain
 answer G (ask-strength a b) =
     refuseIf (outside G (a ∷ b ∷ [])) 9 0
     (refuseIf (noLink G a b) 11 0
@@ -132,3 +137,9 @@ answer G (ask-links k a b) =
     (refuseIf (badLevel k) 10 0
     (refuseIf (noLink G a b) 11 0
     (passed (numbers (groupLinks G k (link a b))))))
+-- "F's checks apply in F's order, each to both links."
+answer G (ask-chain k a b c d) =
+    refuseIf (outside G (a ∷ b ∷ c ∷ d ∷ [])) 9 0
+    (refuseIf (badLevel k) 10 0
+    (refuseIf (noLink G a b || noLink G c d) 11 0
+    (passed (chain (shortestChain G k (link a b) (link c d))))))

@@ -1,19 +1,23 @@
--- Demand 3 in plain words of the definitions: what it says of any files, links and levels, whatever memory was lent. A hypothesis more in Demand3, or a
--- conclusion less, fails here; no law fails at it, since the law that is left is weaker and true.
+-- Demand 3 in plain words of the definitions: what it says of any files, links and levels, whatever memory was lent; and what question G answers (Ways). A
+-- hypothesis more in Demand3 or Ways, or a conclusion less, fails here; no law fails at it, since the law that is left is weaker and true.
 use mathlib.Core.Path.{_≡_}
 use mathlib.Core.Logic.{_⊎_, inl, inr, _↔_, _≢_}
-use mathlib.Core.Bool.{true}
-use mathlib.Core.List.{List, map}
-use Prim.Native.Nat.{ℕ, _≤_}
+use mathlib.Core.Bool.{true, false}
+use mathlib.Core.List.{List, [], _∷_, map}
+use mathlib.Core.List.{List·Memᴰ as In}
+use Prim.Native.Nat.{ℕ, _≤_, _<_}
 use lib.ListN.{length, take}
-use Rattle.truss.specs.Limits.{minLevel, maxLevel}
-use Rattle.truss.specs.Graph.{Link, Pair, linkOf, graphOf, member}
-use Rattle.truss.specs.Chain.{Joined}
+use Rattle.truss.specs.Limits.{minLevel, maxLevel, maxChainBytes}
+use Rattle.truss.specs.Graph.{Link, Pair, Triangle, Has, linkOf, graphOf, member}
+use Rattle.truss.specs.Chain.{AtLeast, StrongTriangle, Joined}
+use Rattle.truss.specs.Shortest.{IsShortestFirst, triangleBefore, shortestChain}
 use Rattle.truss.specs.LinksFile.{accepted, readLinks}
 use Rattle.truss.specs.Index.{decode, indexBytes}
-use Rattle.truss.specs.Call.{build, done}
+use Rattle.truss.specs.Question.{chain}
+use Rattle.truss.specs.Call.{answerBytes, build, done}
 use Rattle.truss.specs.Stored.{ForestConnects, TreeHolds}
 use Rattle.truss.specs.Demand3.{Builds, AllOrNone, Demand3, OnlyShortMemory}
+use Rattle.truss.specs.Ways.{Ways}
 
 pub record Spelled : Type 0 where
   same-index : Demand3 → (file file′ : List ℕ) (n n′ : ℕ) (ps ps′ : List Pair) (b b′ lent lent′ : List ℕ)
@@ -26,6 +30,18 @@ pub record Spelled : Type 0 where
       → (Joined (graphOf n ps) k e f ↔ ForestConnects (decode b) k e f) × (Joined (graphOf n ps) k e f ↔ TreeHolds (decode b) k e f)
   only-short-memory : OnlyShortMemory → (file : List ℕ) (n : ℕ) (ps : List Pair) (lent : List ℕ)
       → readLinks file ≡ accepted n ps → length (indexBytes (graphOf n ps)) ≤ length lent → build file lent .reply ≡ done (length (indexBytes (graphOf n ps)))
+  shortest-way : Ways → (file : List ℕ) (n : ℕ) (ps : List Pair) → readLinks file ≡ accepted n ps → (k : ℕ) (e f : Link)
+      → (Joined (graphOf n ps) k e f → IsShortestFirst (graphOf n ps) k e f (shortestChain (graphOf n ps) k e f))
+      × ((ts us : List Triangle) → IsShortestFirst (graphOf n ps) k e f ts → IsShortestFirst (graphOf n ps) k e f us → ts ≡ us)
+      × ((shortestChain (graphOf n ps) k e f ≡ []) ↔ (¬ Joined (graphOf n ps) k e f))
+  with-itself : Ways → (file : List ℕ) (n : ℕ) (ps : List Pair) → readLinks file ≡ accepted n ps → (k : ℕ) (e : Link)
+      → (minLevel ≤ k → AtLeast (graphOf n ps) k e
+      → (t : Triangle) × (shortestChain (graphOf n ps) k e e ≡ t ∷ []) × StrongTriangle (graphOf n ps) k t × Has t e
+      × ((u : Triangle) → StrongTriangle (graphOf n ps) k u → Has u e → triangleBefore u t ≡ false))
+      × (¬ AtLeast (graphOf n ps) k e → shortestChain (graphOf n ps) k e e ≡ [])
+  chain-written : Ways → (file : List ℕ) (n : ℕ) (ps : List Pair) → readLinks file ≡ accepted n ps → (k : ℕ) (e f : Link)
+      → ((t : Triangle) → In t (shortestChain (graphOf n ps) k e f) → (t .a < t .b) × (t .b < t .c))
+      × (length (answerBytes (chain (shortestChain (graphOf n ps) k e f))) ≤ maxChainBytes)
 
 alike : {A B C : Type 0} → AllOrNone A B C → (A ↔ B) × (A ↔ C)
 alike (inl (a, b, c)) = ((λ _. b, λ _. a), (λ _. c, λ _. a))
@@ -40,4 +56,7 @@ spelled = record {
       let x : Builds file b = record { lent = lent; not-refused = r; written = w } in
       alike (d file file n n ps ps b b h h x x .agrees e f he hf ne k l u);
   only-short-memory = λ o. o;
+  shortest-way = λ w file n ps h k e f. let x = w file n ps h k e f in (x .given, x .only, x .none);
+  with-itself = λ w file n ps h k e. let x = w file n ps h k e e in ((λ l s. let y = x .itself l s in (y .t, y .one, y .strong, y .holds, y .first)), x .itself-none);
+  chain-written = λ w file n ps h k e f. let x = w file n ps h k e f in (x .rising, x .room);
 }

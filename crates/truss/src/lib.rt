@@ -1,11 +1,12 @@
 // The definitions of the linked-account index stand in specs/. The check looks at a crate only if it has a function: this one promises the worked cases.
 ghost use Rattle.truss.specs.Cases.{Cases, RuleCases, WindowCases, FieldCases};
+ghost use Rattle.truss.specs.ChainCases.{ChainCases};
 ghost use Rattle.truss.specs.WholeCalls.{WholeCalls};
 ghost use Rattle.truss.specs.Figures.{Figures};
 ghost use Rattle.truss.specs.Spelled.{Spelled};
 
 pub fn definitions()
-    ensures { λ _. ⌜ Cases × RuleCases × WindowCases × FieldCases × WholeCalls × Figures × Spelled ⌝ }
+    ensures { λ _. ⌜ Cases × RuleCases × WindowCases × FieldCases × ChainCases × WholeCalls × Figures × Spelled ⌝ }
 {
     return;
 }
