@@ -5,3 +5,4 @@ pub mod Links
 pub mod Levels
 pub mod Named
 pub mod Asked
+pub mod Ways

@@ -8,23 +8,23 @@ use native.Mathlib.Nat.{zero-add}
 use native.Mathlib.Numerals.{add-one}
 use native.Mathlib.Omega.{arith}
 use lib.Dec.{eqb}
-use lib.ListN.{length, drop, length-append}
-use borrow.Author.Tests.{eq-eqb, ne-eqb, eqb-true, eqb-false, lt-ltb, le-ltb}
+use lib.ListN.{length, length-append}
+use borrow.Author.Tests.{eq-eqb, ne-eqb, eqb-true, eqb-false}
 use Rattle.truss.specs.Limits.{maxLinks}
 use Rattle.truss.specs.Lists.{filter, range, concatMap}
 use Rattle.truss.specs.Record.{field}
 use Rattle.truss.specs.Question.{numbers}
-use Rattle.truss.specs.Call.{done, answerBytes, answerValue}
+use Rattle.truss.specs.Call.{answerBytes, answerValue}
 use Rattle.laws.proofs.Numbers.{same-or-not}
 use Rattle.laws.proofs.Lists.{bool-same}
 use Rattle.laws.proofs.Members.{range-last, range-in}
 use Rattle.laws.proofs.Sets.{filter-same}
 use Rattle.columns.specs.Columns.{cell, COLUMNS}
-use Rattle.wire.specs.Writing.{written, written-start, written-none, written-length, written-then}
+use Rattle.wire.specs.Writing.{written, written-none, written-length, written-then}
 use Rattle.index.specs.declared.Reply.{Reply as CReply}
-use Rattle.index.specs.Build.{replyIn, Replies, reply-same, reply-with}
+use Rattle.index.specs.Build.{Replies}
 use Rattle.holding.specs.Marks.{Marks}
-use Rattle.question.specs.Replies.{given}
+use Rattle.question.specs.Replies.{shown-no-room, shown-wrote}
 use Rattle.question.specs.Replies.{Lists as ListGives}
 
 -- column 0 marks i
@@ -112,16 +112,12 @@ answer-length xs = omega (arith, bytes-length xs)
 
 module _ (xs out : List ℕ) where
   pub list-no-room : {r : CReply} → length out < 2 + 2 * length xs → Replies r 12 0 → ListGives xs out r out
-  unfolding given
-  list-no-room l R = reply-with out R ∙ rw (lt-ltb (length out) (length (answerBytes (numbers xs))) (omega (arith, answer-length xs)), given) refl
+  list-no-room l R = shown-no-room (numbers xs) out (omega (arith, l, answer-length xs)) R
 
   pub list-wrote : {r : CReply} {out′ : List ℕ} → 2 + 2 * length xs ≤ length out → out′ ≡ written out 0 (field (length xs) ++ concatMap field xs) → Replies r 0 (2 + 2 * length xs) → ListGives xs out r out′
-  unfolding given answerValue
-  list-wrote {r} {out′} l q R =
-      let a = answer-bytes xs in
-      let e : out′ ≡ answerBytes (numbers xs) ++ drop (length (answerBytes (numbers xs))) out = q ∙ ap (written out 0) (sym a) ∙ written-start out (answerBytes (numbers xs)) in
-      let v : replyIn r ≡ done (length (answerBytes (numbers xs))) = reply-same R ∙ ap done (sym (answer-length xs)) in
-      rw (le-ltb (length out) (length (answerBytes (numbers xs))) (omega (arith, answer-length xs)), given) (λ i. record { reply = v i; buffer = e i })
+  unfolding answerValue
+  list-wrote l q R =
+      shown-wrote (numbers xs) out (omega (arith, l, answer-length xs)) (q ∙ ap (written out 0) (sym (answer-bytes xs))) (rw (← answer-length xs) at R)
 
 -- ---- what is marked is what passes a test
 

@@ -1,23 +1,25 @@
 -- What a checked answer gives a caller, and the ways to it. Assumes nothing.
 use mathlib.Core.Path.{_≡_, refl, ap, _∙_}
 use mathlib.Core.Bool.{Bool, true, false, cond, not, _||_}
-use mathlib.Core.List.{List, [], _∷_}
-use Prim.Native.Nat.{ℕ, _<_}
+use mathlib.Core.List.{List, [], _∷_, _++_}
+use Prim.Native.Nat.{ℕ, _≤_, _<_}
 use native.Mathlib.Omega.{arith}
 use lib.Dec.{eqb, ltb}
-use lib.ListN.{length}
-use borrow.Author.Tests.{le-ltb, eq-eqb, ne-eqb}
+use lib.ListN.{length, drop}
+use borrow.Author.Tests.{lt-ltb, le-ltb, eq-eqb, ne-eqb}
 use Rattle.truss.specs.Lists.{sameList}
 use Rattle.truss.specs.Graph.{Graph, link}
 use Rattle.truss.specs.Strength.{strength}
+use Rattle.truss.specs.Shortest.{shortestChain}
 use Rattle.truss.specs.Refusal.{Checked, passed, refused, refuse, refuseIf, andThen}
 use Rattle.truss.specs.LinksFile.{Links, graphOfLinks, readLinks}
 use Rattle.truss.specs.Index.{indexBytes}
 use Rattle.truss.specs.IndexFile.{linksFileIn, ifIndexIs, readIndex}
-use Rattle.truss.specs.Question.{Question, Answer, number, numbers, answer, outside, noLink, badCount, badLevel, accountsIn, joinedUpTo, groupsHolding, strongestHolding, allHolding, groupLinks, ask-strength, ask-joined, ask-groups-at, ask-strongest, ask-all, ask-links}
+use Rattle.truss.specs.Question.{Question, Answer, number, numbers, answer, outside, noLink, badCount, badLevel, accountsIn, joinedUpTo, groupsHolding, strongestHolding, allHolding, groupLinks, chain, ask-strength, ask-joined, ask-groups-at, ask-strongest, ask-all, ask-links, ask-chain}
 use Rattle.truss.specs.Call.{Written, Asked, done, notDone, withRoom, overwrite, answerBytes, answerValue, checkedAnswer, nextTally, settle, ask}
 use Rattle.index.specs.declared.Reply.{Reply as CReply}
-use Rattle.index.specs.Build.{replyIn, replied, Replies, reply-with}
+use Rattle.wire.specs.Writing.{written, written-start}
+use Rattle.index.specs.Build.{replyIn, replied, Replies, reply-with, reply-same}
 
 -- a checked answer in the reply and the buffer
 unfoldable pub given : Checked Answer → List ℕ → Written
@@ -33,9 +35,25 @@ roomed G q out = andThen (answer G q) (λ a. withRoom (answerBytes a) out a)
 abbrev pub Answers : Graph → Question → List ℕ → CReply → List ℕ → Type 0
 Answers G q out r out′ = replied r out′ ≡ given (roomed G q out) out
 
--- a list of numbers, with 12
+-- an answer that is written, with 12
+abbrev pub Shown : Answer → List ℕ → CReply → List ℕ → Type 0
+Shown x out r out′ = replied r out′ ≡ given (withRoom (answerBytes x) out x) out
+
+-- a list of numbers
 abbrev pub Lists : List ℕ → List ℕ → CReply → List ℕ → Type 0
-Lists xs out r out′ = replied r out′ ≡ given (withRoom (answerBytes (numbers xs)) out (numbers xs)) out
+Lists xs out r out′ = Shown (numbers xs) out r out′
+
+module _ (x : Answer) (out : List ℕ) where
+  pub shown-no-room : {r : CReply} → length out < length (answerBytes x) → Replies r 12 0 → Shown x out r out
+  unfolding given
+  shown-no-room l R = reply-with out R ∙ rw (lt-ltb (length out) (length (answerBytes x)) l, given) refl
+
+  pub shown-wrote : {r : CReply} {out′ : List ℕ} → length (answerBytes x) ≤ length out → out′ ≡ written out 0 (answerBytes x) → Replies r 0 (answerValue x) → Shown x out r out′
+  unfolding given
+  shown-wrote {r} {out′} l q R =
+      let e : out′ ≡ answerBytes x ++ drop (length (answerBytes x)) out = q ∙ written-start out (answerBytes x) in
+      let v : replyIn r ≡ done (answerValue x) = reply-same R in
+      rw (le-ltb (length out) (length (answerBytes x)) l, given) (λ i. record { reply = v i; buffer = e i })
 
 module _ (G : Graph) (q : Question) (out : List ℕ) where
   pub answer-refused : {k : ℕ} {r : CReply} → answer G q ≡ refuse k 0 → Replies r k 0 → Answers G q out r out
@@ -46,9 +64,9 @@ module _ (G : Graph) (q : Question) (out : List ℕ) where
   unfolding roomed given andThen answerBytes answerValue
   answer-number e R = reply-with out R ∙ rw (e, andThen, answerBytes, le-ltb (length out) 0 (omega arith), given, answerValue) refl
 
-  pub answer-numbers : {xs : List ℕ} {r : CReply} {out′ : List ℕ} → answer G q ≡ passed (numbers xs) → Lists xs out r out′ → Answers G q out r out′
+  pub answer-shown : {x : Answer} {r : CReply} {out′ : List ℕ} → answer G q ≡ passed x → Shown x out r out′ → Answers G q out r out′
   unfolding roomed andThen
-  answer-numbers e L = L ∙ rw (e, andThen) refl
+  answer-shown e L = L ∙ rw (e, andThen) refl
 
 -- ---- the promise of a question
 
@@ -97,6 +115,8 @@ answer-not-zero G (ask-strongest named) = two-checks (badCount named) (outside G
 answer-not-zero G (ask-all named) = two-checks (badCount named) (outside G (accountsIn named)) 8 9 (numbers (allHolding G (accountsIn named))) (omega arith) (omega arith)
 answer-not-zero G (ask-links k a b) =
     three-checks (outside G (a ∷ b ∷ [])) (badLevel k) (noLink G a b) 9 10 11 (numbers (groupLinks G k (link a b))) (omega arith) (omega arith) (omega arith)
+answer-not-zero G (ask-chain k a b c d) =
+    three-checks (outside G (a ∷ b ∷ c ∷ d ∷ [])) (badLevel k) (noLink G a b || noLink G c d) 9 10 11 (chain (shortestChain G k (link a b) (link c d))) (omega arith) (omega arith) (omega arith)
 
 read-not-zero : (b : List ℕ) → NotZero (readIndex b)
 unfolding readIndex ifIndexIs NotZero

@@ -12,6 +12,7 @@ use crate::links::strength_of;
 use crate::named::all_groups;
 use crate::named::groups_at;
 use crate::named::strongest_groups;
+use crate::ways::shortest_chain;
 use columns::COLUMNS;
 use columns::room;
 use index::Reply;
@@ -20,14 +21,35 @@ use index::open::Opening;
 use index::open::Outline;
 use index::open::open;
 
-// The questions A to F with their numbers. The accounts that C, D and E name are lent beside it.
+// The questions A to G with their numbers. The accounts that C, D and E name are lent beside it.
 pub enum Question {
-    Strength { a: u32, b: u32 },
-    Joined { a: u32, b: u32, c: u32, d: u32 },
-    GroupsAt { k: u32 },
+    Strength {
+        a: u32,
+        b: u32,
+    },
+    Joined {
+        a: u32,
+        b: u32,
+        c: u32,
+        d: u32,
+    },
+    GroupsAt {
+        k: u32,
+    },
     StrongestGroups,
     AllGroups,
-    GroupLinks { a: u32, b: u32, k: u32 },
+    GroupLinks {
+        a: u32,
+        b: u32,
+        k: u32,
+    },
+    Chain {
+        a: u32,
+        b: u32,
+        c: u32,
+        d: u32,
+        k: u32,
+    },
 }
 
 // A question on an index of this outline, in a work space that is 0.
@@ -65,10 +87,21 @@ fn answer_of(
             b as usize,
             k as usize,
         ),
+        Question::Chain { a, b, c, d, k } => shortest_chain(
+            s,
+            out,
+            w,
+            o,
+            a as usize,
+            b as usize,
+            c as usize,
+            d as usize,
+            k as usize,
+        ),
     }
 }
 
-// A question on an index: the answer of A and B as the value, or the number of bytes that C to F wrote; or the first refusal of 7 to 12 with place 0. Bytes of
+// A question on an index: the answer of A and B as the value, or the number of bytes that C to G wrote; or the first refusal of 7 to 12 with place 0. Bytes of
 // the buffer after the answer stay, and all stay on a refusal.
 pub fn answer(index: &[u8], named: &[u8], out: &mut [u8], q: Question) -> Reply
     ensures { λ r. ⌜ AnswerGives (now (index .entry)) (questionOf q (now (named .entry))) (now (out .entry)) r (now (out .exit)) ⌝ }

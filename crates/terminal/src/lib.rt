@@ -1,6 +1,6 @@
 // The calls for the terminal's C host: numbers and byte slices in, four numbers out. A slice is a pointer and then a length. include/footballelm.h has them.
 ghost use mathlib.Core.List.{[]};
-ghost use Rattle.truss.specs.Question.{ask-all, ask-groups-at, ask-joined, ask-links, ask-strength, ask-strongest};
+ghost use Rattle.truss.specs.Question.{ask-all, ask-chain, ask-groups-at, ask-joined, ask-links, ask-strength, ask-strongest};
 ghost use Rattle.index.specs.Build.{BuildGives};
 ghost use Rattle.index.specs.Read.{ReadGives};
 ghost use Rattle.desk.specs.DeskBytes.{AskBytesGives};
@@ -98,6 +98,29 @@ pub extern "C" fn fe_group_links(
         &index[..0],
         answer,
         Question::GroupLinks { a, b, k },
+        desk,
+    )
+}
+
+// G. The shortest chain of triangles of weight at least k from link a-b to link c-d; none if there is no chain.
+#[no_mangle]
+pub extern "C" fn fe_chain(
+    index: &[u8],
+    a: u32,
+    b: u32,
+    c: u32,
+    d: u32,
+    k: u32,
+    answer: &mut [u8],
+    desk: &mut [u8],
+) -> Reply
+    ensures { λ r. ⌜ AskBytesGives (now (index .entry)) (ask-chain k a b c d) (now (answer .entry)) (now (desk .entry)) r (now (answer .exit)) (now (desk .exit)) ⌝ }
+{
+    ask_bytes(
+        index,
+        &index[..0],
+        answer,
+        Question::Chain { a, b, c, d, k },
         desk,
     )
 }

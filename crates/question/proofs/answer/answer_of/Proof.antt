@@ -76,6 +76,27 @@ cast-group-links-3 c = search needs
 group-links-requires : tie.Need-group-links-requires
 group-links-requires c κs = (c .before .before .before .before .before .before .before .before .before .pre .0, ap length (c .before .before .before .before .before .before .before .before .before .pre .1) ∙ zeros-length _)
 
+enum-known-q-5 : tie.Need-enum-known-q-5
+enum-known-q-5 c = search needs
+
+cast-shortest-chain : tie.Need-cast-shortest-chain
+cast-shortest-chain c = search needs
+
+cast-shortest-chain-2 : tie.Need-cast-shortest-chain-2
+cast-shortest-chain-2 c = search needs
+
+cast-shortest-chain-3 : tie.Need-cast-shortest-chain-3
+cast-shortest-chain-3 c = search needs
+
+cast-shortest-chain-4 : tie.Need-cast-shortest-chain-4
+cast-shortest-chain-4 c = search needs
+
+cast-shortest-chain-5 : tie.Need-cast-shortest-chain-5
+cast-shortest-chain-5 c = search needs
+
+shortest-chain-requires : tie.Need-shortest-chain-requires
+shortest-chain-requires c κs = search needs
+
 returns : tie.Need-returns
 returns c = subst (λ (q : CQuestion). Answers (graphIn (c .before .before .before .before .before .before .before .before .args .s .now)) (questionOf q (c .before .before .before .before .before .before .before .before .args .named .now)) (c .before .before .before .before .before .before .before .before .args .out .now) (c .strength-of .result) (c .before .before .before .before .before .before .before .before .args .out .now)) (sym (c .before .before .q .given .1)) (c .strength-of .ensures (c .before .before .before .before .before .before .before .before .args .out .now))
 
@@ -118,6 +139,15 @@ same-length-8 c = search needs
 returns-6 : tie.Need-returns-6
 returns-6 c = subst (λ (q : CQuestion). Answers (graphIn (c .before .before .before .before .before .before .before .before .before .before .before .before .before .before .args .s .now)) (questionOf q (c .before .before .before .before .before .before .before .before .before .before .before .before .before .before .args .named .now)) (c .before .before .before .before .before .before .before .before .before .before .before .before .before .before .args .out .now) (c .before .before .before .before .group-links .result) (c .before .before .before .before .group-links .last .1 .0)) (sym (c .before .before .before .before .before .before .before .before .q4 .given .1)) (c .before .before .before .before .group-links .ensures)
 
+same-length-9 : tie.Need-same-length-9
+same-length-9 c = search needs
+
+same-length-10 : tie.Need-same-length-10
+same-length-10 c = search needs
+
+returns-7 : tie.Need-returns-7
+returns-7 c = subst (λ (q : CQuestion). Answers (graphIn (c .before .before .before .before .before .before .before .before .before .before .before .before .before .before .args .s .now)) (questionOf q (c .before .before .before .before .before .before .before .before .before .before .before .before .before .before .args .named .now)) (c .before .before .before .before .before .before .before .before .before .before .before .before .before .before .args .out .now) (c .before .before .before .before .shortest-chain .result) (c .before .before .before .before .shortest-chain .last .1 .0)) (sym (c .before .before .before .before .before .before .before .before .q5 .given .1)) (c .before .before .before .before .shortest-chain .ensures)
+
 pub answer-of-spec : {M : Type 1} → statement M
 answer-of-spec =
     tie.close
@@ -144,6 +174,13 @@ answer-of-spec =
     cast-group-links-2
     cast-group-links-3
     group-links-requires
+    enum-known-q-5
+    cast-shortest-chain
+    cast-shortest-chain-2
+    cast-shortest-chain-3
+    cast-shortest-chain-4
+    cast-shortest-chain-5
+    shortest-chain-requires
     returns
     returns-2
     same-length
@@ -157,4 +194,7 @@ answer-of-spec =
     returns-5
     same-length-7
     same-length-8
-    returns-6)
+    returns-6
+    same-length-9
+    same-length-10
+    returns-7)

@@ -5,7 +5,7 @@ use Rattle.truss.specs.Graph.{link}
 use Rattle.truss.specs.Group.{groupAt}
 use Rattle.truss.specs.Question.{ask-links, groupLinks}
 use Rattle.stored.specs.Rows.{graphIn}
-use Rattle.question.specs.Replies.{answer-refused, answer-numbers}
+use Rattle.question.specs.Replies.{answer-refused, answer-shown}
 use Rattle.question.specs.Links.{F-first, F-second, F-level, F-none, F-is, level-least, found-link, found-in, no-such-link, shape-groups, shape-few, members-are}
 use borrow.Author.Needs.{needs}
 use Rattle.question.proofs.links.group_links.Statement.{statement}
@@ -59,7 +59,7 @@ same-length-2 c = search needs
 returns-5 : tie.Need-returns-5
 unfolding groupLinks
 returns-5 c =
-    answer-numbers (graphIn (c .before .before .before .before .before .before .before .before .before .before .before .before .before .before .before .before .before .before .before .before .before .before .args .s .now)) (ask-links (c .before .before .before .before .before .before .before .before .before .before .before .before .before .before .before .before .before .before .before .before .before .before .args .k) (c .before .before .before .before .before .before .before .before .before .before .before .before .before .before .before .before .before .before .before .before .before .before .args .a) (c .before .before .before .before .before .before .before .before .before .before .before .before .before .before .before .before .before .before .before .before .before .before .args .b)) (c .before .before .before .before .before .before .before .before .before .before .before .before .before .before .before .before .before .before .before .before .before .before .args .out .now)
+    answer-shown (graphIn (c .before .before .before .before .before .before .before .before .before .before .before .before .before .before .before .before .before .before .before .before .before .before .args .s .now)) (ask-links (c .before .before .before .before .before .before .before .before .before .before .before .before .before .before .before .before .before .before .before .before .before .before .args .k) (c .before .before .before .before .before .before .before .before .before .before .before .before .before .before .before .before .before .before .before .before .before .before .args .a) (c .before .before .before .before .before .before .before .before .before .before .before .before .before .before .before .before .before .before .before .before .before .before .args .b)) (c .before .before .before .before .before .before .before .before .before .before .before .before .before .before .before .before .before .before .before .before .before .before .args .out .now)
     (F-is (graphIn (c .before .before .before .before .before .before .before .before .before .before .before .before .before .before .before .before .before .before .before .before .before .before .args .s .now)) (c .before .before .before .before .before .before .before .before .before .before .before .before .before .before .before .before .before .before .before .before .before .before .pre .0 .accounts) (c .before .before .before .before .before .before .before .before .before .before .before .before .before .before .before .before .before .before .before .before .before .before .args .a) (c .before .before .before .before .before .before .before .before .before .before .before .before .before .before .before .before .before .before .before .before .before .before .args .b) (c .before .before .before .before .before .before .before .before .before .before .before .before .before .before .before .before .before .before .before .before .before .before .args .k) (c .before .before .before .before .before .before .before .before .before .before .before .before .before .before .before .before .before .if1 .left) (c .before .before .before .before .before .before .before .before .before .before .before .before .before .before .before .if2 .left) (sym (c .before .before .before .before .before .before .before .before .before .before .before .before .before .before .bad-level .ensures) ∙ c .before .before .before .before .before .before .before .before .before .before .before .before .before .if3 .left) (found-link (graphIn (c .before .before .before .before .before .before .before .before .before .before .before .before .before .before .before .before .before .before .before .before .before .before .args .s .now)) (link (c .before .before .before .before .before .before .before .before .before .before .before .before .before .before .before .before .before .before .before .before .before .before .args .a) (c .before .before .before .before .before .before .before .before .before .before .before .before .before .before .before .before .before .before .before .before .before .before .args .b)) (c .before .before .before .before .before .before .before .before .before .before .before .before .before .before .before .before .before .before .before .before .before .before .pre .0 .links) (c .before .before .before .before .before .before .before .before .before .before .before .before .find-link .ensures) (c .before .before .before .before .before .before .before .before .before .before .if4 .left))
     (members-are (c .before .before .before .before .before .before .before .before .before .before .before .before .before .before .before .before .before .before .before .before .before .before .pre .0 .links) (c .before .before .before .before .before .before .before .mark-members .ensures) ∙ ap (groupAt (graphIn (c .before .before .before .before .before .before .before .before .before .before .before .before .before .before .before .before .before .before .before .before .before .before .args .s .now)) (c .before .before .before .before .before .before .before .before .before .before .before .before .before .before .before .before .before .before .before .before .before .before .args .k)) (c .before .before .before .before .before .before .before .before .before .before .before .before .find-link .ensures)))
     (c .before .before .give .ensures)

@@ -1,7 +1,7 @@
 -- `question::named::all_groups` meets its contract. Assumes nothing.
 use Rattle.truss.specs.Question.{ask-all}
 use Rattle.stored.specs.Rows.{graphIn}
-use Rattle.question.specs.Replies.{answer-refused, answer-numbers}
+use Rattle.question.specs.Replies.{answer-refused, answer-shown}
 use Rattle.question.specs.Links.{shape-few}
 use Rattle.question.specs.Named.{E-fault, E-answer, E-marked}
 use borrow.Author.Needs.{needs}
@@ -30,7 +30,7 @@ same-length-3 : tie.Need-same-length-3
 same-length-3 c = search needs
 
 returns-2 : tie.Need-returns-2
-returns-2 c = answer-numbers (graphIn (c .before .before .before .before .before .before .before .before .before .before .before .before .before .before .args .s .now)) (ask-all (c .before .before .before .before .before .before .before .before .before .before .before .before .before .before .args .named .now)) (c .before .before .before .before .before .before .before .before .before .before .before .before .before .before .args .out .now) (E-answer ((c .before .before .before .before .before .before .before .before .hold-named .ensures .held (c .before .before .before .before .before .if1 .left)) .0) (E-marked (c .before .before .before .before .before .before .before .before .before .before .before .before .before .before .pre .0 .groups) ((c .before .before .before .before .before .before .before .before .hold-named .ensures .held (c .before .before .before .before .before .if1 .left)) .1))) (c .before .before .give .ensures)
+returns-2 c = answer-shown (graphIn (c .before .before .before .before .before .before .before .before .before .before .before .before .before .before .args .s .now)) (ask-all (c .before .before .before .before .before .before .before .before .before .before .before .before .before .before .args .named .now)) (c .before .before .before .before .before .before .before .before .before .before .before .before .before .before .args .out .now) (E-answer ((c .before .before .before .before .before .before .before .before .hold-named .ensures .held (c .before .before .before .before .before .if1 .left)) .0) (E-marked (c .before .before .before .before .before .before .before .before .before .before .before .before .before .before .pre .0 .groups) ((c .before .before .before .before .before .before .before .before .hold-named .ensures .held (c .before .before .before .before .before .if1 .left)) .1))) (c .before .before .give .ensures)
 
 pub all-groups-spec : {M : Type 1} → statement M
 all-groups-spec =
