@@ -1,10 +1,10 @@
-/* The eight calls in one form, so that a test can go through them all and can put a faulty one in a call's place. */
+/* The nine calls in one form, so that a test can go through them all and can put a faulty one in a call's place. */
 #ifndef CALLS_H
 #define CALLS_H
 
 #include "footballelm.h"
 
-enum call { BUILD, READ, STRENGTH, JOINED, GROUPS_AT, STRONGEST, ALL_GROUPS, GROUP_LINKS, CALLS };
+enum call { BUILD, READ, STRENGTH, JOINED, GROUPS_AT, STRONGEST, ALL_GROUPS, GROUP_LINKS, CHAIN, CALLS };
 
 struct slice {
     uint8_t *at;
@@ -23,7 +23,7 @@ typedef fe_reply library(const struct asked *asked);
 
 static inline const char *name_of(enum call call) {
     static const char *const NAME[CALLS] = {
-        "fe_build", "fe_read", "fe_strength", "fe_joined", "fe_groups_at", "fe_strongest_groups", "fe_all_groups", "fe_group_links",
+        "fe_build", "fe_read", "fe_strength", "fe_joined", "fe_groups_at", "fe_strongest_groups", "fe_all_groups", "fe_group_links", "fe_chain",
     };
     return NAME[call];
 }
@@ -37,7 +37,12 @@ static inline int has_accounts(enum call call) {
 }
 
 static inline int has_level(enum call call) {
-    return call == GROUPS_AT || call == GROUP_LINKS;
+    return call == GROUPS_AT || call == GROUP_LINKS || call == CHAIN;
+}
+
+/* How many of a question's numbers are accounts: two for each link. */
+static inline uint32_t ends_of(enum call call) {
+    return !is_question(call) || has_accounts(call) ? 0 : call == JOINED || call == CHAIN ? 4 : 2;
 }
 
 static inline int has_buffer(enum call call) {
@@ -55,7 +60,8 @@ static inline fe_reply make_call(const struct asked *asked) {
     case GROUPS_AT: return fe_groups_at(i.at, i.length, v.at, v.length, asked->k, o.at, o.length, d.at, d.length);
     case STRONGEST: return fe_strongest_groups(i.at, i.length, v.at, v.length, o.at, o.length, d.at, d.length);
     case ALL_GROUPS: return fe_all_groups(i.at, i.length, v.at, v.length, o.at, o.length, d.at, d.length);
-    default: return fe_group_links(i.at, i.length, n[0], n[1], asked->k, o.at, o.length, d.at, d.length);
+    case GROUP_LINKS: return fe_group_links(i.at, i.length, n[0], n[1], asked->k, o.at, o.length, d.at, d.length);
+    default: return fe_chain(i.at, i.length, n[0], n[1], n[2], n[3], asked->k, o.at, o.length, d.at, d.length);
     }
 }
 

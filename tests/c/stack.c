@@ -17,7 +17,7 @@
 
 enum { PAINT = 0xA5, PAGE = 4096, STACK = 1 << 20, NAMED = 16, ALIGNED = 16 };
 
-static uint8_t links[FE_LINKS_MAX], index_bytes[FE_INDEX_MAX], back[FE_LINKS_MAX], accounts[2 * NAMED], answer[FE_ANSWER_MAX], desk[FE_DESK];
+static uint8_t links[FE_LINKS_MAX], index_bytes[FE_INDEX_MAX], back[FE_LINKS_MAX], accounts[2 * NAMED], answer[FE_CHAIN_MAX], desk[FE_DESK];
 static size_t links_len, length;
 static uint32_t last;
 static char *stack; /* its lowest byte; right below it lies a guard page */
@@ -57,6 +57,7 @@ static void prepare(enum call call, size_t room) {
     asked = (struct asked){.call = call, .k = 3, .number = {0, 1, 1, last}, .read = {index_bytes, length}, .accounts = {accounts, sizeof accounts},
                            .buffer = {answer, sizeof answer}, .desk = {desk, sizeof desk}};
     if (call == STRENGTH) asked.number[0] = 1, asked.number[1] = last;
+    if (call == CHAIN) asked.number[0] = 2, asked.number[1] = 3; /* two triangles from 1-last, or three */
     if (call == READ) asked.buffer = (struct slice){back, sizeof back};
     if (call == BUILD) asked.read = (struct slice){links, links_len}, asked.buffer = (struct slice){index_bytes, room};
 }

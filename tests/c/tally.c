@@ -1,4 +1,4 @@
-/* A million questions in a row on one desk record, with the tally looked at after each: all six kinds, answered and refused, drawn from a table of known replies.
+/* A million questions in a row on one desk record, with the tally looked at after each: all seven kinds, answered and refused, drawn from a table of known replies.
  *
  *     tally [N]   N questions (1,000,000 if not given), and then as many as it takes to come to rest at the top
  *
@@ -67,6 +67,17 @@ static const struct known KNOWN[] = {
     {.call = GROUP_LINKS, .number = {2, 4}, .k = 66, .room = R, .desk = D, .refusal = 10},
     {.call = GROUP_LINKS, .number = {1, 4}, .k = 3, .room = R, .desk = D, .refusal = 11},
     {.call = GROUP_LINKS, .number = {0, 1}, .k = 4, .room = 13, .desk = D, .refusal = 12},
+    {.call = CHAIN, .number = {2, 3, 3, 4}, .k = 3, .room = 8, .desk = D, .value = 8, .answer = {0, 1, 0, 2, 0, 3, 0, 4}},
+    {.call = CHAIN, .number = {2, 3, 3, 4}, .k = 4, .room = 2, .desk = 4, .value = 2, .answer = {0, 0}},
+    {.call = CHAIN, .number = {3, 2, 0, 1}, .k = 4, .room = 14, .desk = D, .value = 14, .answer = {0, 2, 0, 0, 0, 2, 0, 3}},
+    {.call = CHAIN, .number = {0, 1, 5, 6}, .k = 3, .room = R, .desk = D, .value = 32, .answer = {0, 5, 0, 0, 0, 1, 0, 2}},
+    {.call = CHAIN, .number = {4, 2, 2, 4}, .k = 3, .room = R, .desk = 4, .value = 8, .answer = {0, 1, 0, 2, 0, 3, 0, 4}},
+    {.call = CHAIN, .number = {0, 1, 5, 6}, .k = 3, .room = R, .desk = D, .refusal = 7, .damaged = 1},
+    {.call = CHAIN, .number = {0, 1, 5, 7}, .k = 2, .room = 0, .desk = 3, .refusal = 9},
+    {.call = CHAIN, .number = {0, 1, 1, 4}, .k = 65, .room = R, .desk = D, .refusal = 10},
+    {.call = CHAIN, .number = {1, 4, 0, 1}, .k = 3, .room = R, .desk = D, .refusal = 11},
+    {.call = CHAIN, .number = {0, 1, 5, 6}, .k = 3, .room = 31, .desk = D, .refusal = 12},
+    {.call = CHAIN, .number = {0, 1, 5, 6}, .k = 3, .room = R, .desk = 3, .refusal = 12},
 };
 
 enum { TABLE = sizeof KNOWN / sizeof *KNOWN };

@@ -160,6 +160,60 @@ static fe_reply account_cut(const struct asked *a) {
     return make_call(&other);
 }
 
+static fe_reply fourth_account_cut(const struct asked *a) {
+    struct asked other = *a;
+    other.number[3] &= 65535;
+    return make_call(&other);
+}
+
+/* ---- chains ---- */
+
+static fe_reply one_triangle_less(const struct asked *a) {
+    fe_reply reply = make_call(a);
+    if (reply.refusal == 0 && reply.value > 8) reply.value -= 6, a->buffer.at[1]--;
+    return reply;
+}
+
+static fe_reply corners_exchanged(const struct asked *a) {
+    fe_reply reply = make_call(a);
+    uint8_t *last = a->buffer.at + reply.value;
+    if (reply.refusal || reply.value < 8) return reply;
+    for (int i = 1; i <= 2; i++) {
+        uint8_t kept = last[-i];
+        last[-i] = last[-i - 2], last[-i - 2] = kept;
+    }
+    return reply;
+}
+
+/* The chain from the second link to the first, turned round. */
+static fe_reply chain_back(const struct asked *a) {
+    struct asked other = *a;
+    for (int i = 0; i < 4; i++) other.number[i] = a->number[(i + 2) % 4];
+    fe_reply reply = make_call(&other);
+    if (reply.refusal) return reply;
+    for (size_t low = 2, high = reply.value; low + 6 < high; low += 6, high -= 6)
+        for (size_t i = 0; i < 6; i++) {
+            uint8_t kept = a->buffer.at[low + i];
+            a->buffer.at[low + i] = a->buffer.at[high - 6 + i], a->buffer.at[high - 6 + i] = kept;
+        }
+    return reply;
+}
+
+static fe_reply none_with_itself(const struct asked *a) {
+    fe_reply reply = make_call(a);
+    const uint32_t *n = a->number;
+    int itself = (n[0] == n[2] && n[1] == n[3]) || (n[0] == n[3] && n[1] == n[2]);
+    if (reply.refusal == 0 && itself) reply.value = 2, a->buffer.at[0] = a->buffer.at[1] = 0;
+    return reply;
+}
+
+static fe_reply second_link_first(const struct asked *a) {
+    struct asked other = *a;
+    for (int i = 0; i < 2; i++) other.number[i] = a->number[i + 2];
+    fe_reply reply = make_call(&other);
+    return reply.refusal == 10 || reply.refusal == 11 ? reply : make_call(a);
+}
+
 /* ---- the tally ---- */
 
 static fe_reply tally_by_two(const struct asked *a) {
@@ -209,6 +263,19 @@ const struct planted PLANTED[] = {
     {"a link read back changed", READ, turns_a_link},
     {"the last group left out", ALL_GROUPS, one_number_less},
     {"the last link left out", GROUP_LINKS, one_number_less},
+    {"a byte past the index read by G", CHAIN, reads_past},
+    {"a byte past the chain written", CHAIN, writes_past_buffer},
+    {"a byte after the chain changed", CHAIN, writes_after_result},
+    {"the answer changed by a refused G", CHAIN, refused_and_changed},
+    {"the last triangle left out", CHAIN, one_triangle_less},
+    {"accounts that do not rise", CHAIN, corners_exchanged},
+    {"the chain from the second link, turned round", CHAIN, chain_back},
+    {"no chain from a link to itself", CHAIN, none_with_itself},
+    {"the chain at 4 for that at 3", CHAIN, four_for_three},
+    {"10 or 11 of the second link before 9 of the first", CHAIN, second_link_first},
+    {"the fourth account cut to two bytes", CHAIN, fourth_account_cut},
+    {"12 at the chain's exact length", CHAIN, exact_is_12},
+    {"the tally moved by two by G", CHAIN, tally_by_two},
     {"another place of 6", BUILD, other_place},
     {"a third number", BUILD, third_number},
     {"12 at the exact length", BUILD, exact_is_12},

@@ -1,5 +1,5 @@
-/* What the calls must give, worked out in C from document 01's rules and from the bytes of an index, without the library's own answers. Only whether bytes are
- * an index leans on the library: they are if fe_build, given the links that they name, writes just them. */
+/* What the calls must give, worked out in C from the rules of documents 01 and 02 and from the bytes of an index, without the library's own answers. Only
+ * whether bytes are an index leans on the library: they are if fe_build, given the links that they name, writes just them. */
 #ifndef RIGHT_H
 #define RIGHT_H
 
@@ -22,7 +22,7 @@ void right_sorted(const uint8_t *file, uint8_t *sorted);
 /* Whether the bytes are an index. If so, `links` is the links file that it names, of `*links_len` bytes. */
 int right_index(const uint8_t *index, size_t length, uint8_t *links, size_t *links_len);
 
-/* The reply of a question that reads an index, but for 12; done, `answer` has what C to F write. */
+/* The reply of a question that reads an index, but for 12; done, `answer` has what C to G write. */
 fe_reply right_answer(const struct asked *asked, uint8_t *answer);
 
 #endif

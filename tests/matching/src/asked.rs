@@ -1,6 +1,6 @@
 //! One question put to the library and to the reference on the same bytes, and every difference between them.
 
-use crate::lent::{four_numbers, Lent};
+use crate::lent::{four_numbers, Lent, RULES};
 use reference::questions;
 use reference::random::Random;
 use reference::reply::Reply;
@@ -11,20 +11,30 @@ pub type Ask = unsafe fn(&Question, &Slices) -> terminal::Reply;
 
 /// A question in the reference.
 fn reference(question: &Question, index: &[u8], answer: &mut [u8], desk: &mut [u8]) -> Reply {
-    questions::from_c(desk, answer, |answer, tally| match *question {
-        Question::A(link) => questions::a(index, link, tally),
-        Question::B(first, second) => questions::b(index, first, second, tally),
-        Question::C(ref accounts, k) => questions::c(index, accounts, k, answer, tally),
-        Question::D(ref accounts) => questions::d(index, accounts, answer, tally),
-        Question::E(ref accounts) => questions::e(index, accounts, answer, tally),
-        Question::F(link, k) => questions::f(index, link, k, answer, tally),
-    })
+    questions::from_c(
+        RULES,
+        desk,
+        0,
+        &mut [],
+        answer,
+        |out, desk| match *question {
+            Question::A(link) => questions::a(RULES, index, link, desk),
+            Question::B(first, second) => questions::b(RULES, index, first, second, desk),
+            Question::C(ref accounts, k) => questions::c(RULES, index, accounts, k, out, desk),
+            Question::D(ref accounts) => questions::d(RULES, index, accounts, out, desk),
+            Question::E(ref accounts) => questions::e(RULES, index, accounts, out, desk),
+            Question::F(link, k) => questions::f(RULES, index, link, k, out, desk),
+            Question::G(first, second, k) => {
+                questions::g(RULES, index, [first, second], k, out, desk)
+            }
+        },
+    )
 }
 
 /// What the reference gives, and the library too.
 pub struct Found {
     pub reply: terminal::Reply,
-    /// What was written by C to F.
+    /// What was written by C to G.
     pub answer: Vec<u8>,
     pub desk: Vec<u8>,
 }
@@ -33,29 +43,31 @@ pub struct Found {
 #[derive(Default)]
 pub struct Met {
     /// By question: 0 answered, else refused by that number.
-    replies: [[usize; 13]; 6],
+    replies: [[usize; 13]; 7],
     /// By question: answered with the first value of `KINDS`, with the second, with another.
-    answers: [[usize; 3]; 6],
+    answers: [[usize; 3]; 7],
 }
 
 /// By question, the refusals that it can have.
-const REFUSALS: [&[usize]; 6] = [
+const REFUSALS: [&[usize]; 7] = [
     &[7, 9, 11, 12],
     &[7, 9, 11, 12],
     &[7, 8, 9, 10, 12],
     &[7, 8, 9, 12],
     &[7, 8, 9, 12],
     &[7, 9, 10, 11, 12],
+    &[7, 9, 10, 11, 12],
 ];
 
 /// By question, two values of a done reply, and what they mean. A group has three links or more.
-const KINDS: [[(u32, &str); 2]; 6] = [
+const KINDS: [[(u32, &str); 2]; 7] = [
     [(2, "2"), (3, "3")],
     [(0, "0"), (3, "3")],
     [(2, "none"), (4, "one")],
     [(2, "none"), (4, "one")],
     [(2, "none"), (4, "one")],
     [(2, "none"), (8, "three")],
+    [(2, "none"), (8, "one")],
 ];
 
 impl Met {
@@ -83,7 +95,7 @@ impl Met {
         let mut all = true;
         let asked: usize = self.replies.iter().flatten().sum();
         println!("questions asked: {asked}, each answered with or refused by:");
-        for (at, letter) in ('A'..='F').enumerate() {
+        for (at, letter) in ('A'..='G').enumerate() {
             let [first, second] = KINDS[at].map(|kind| kind.1);
             let names = [first, second, "more"].into_iter().zip(self.answers[at]);
             let answered = names.map(|(name, count)| (name.to_string(), count));
@@ -111,7 +123,7 @@ pub struct Asker<'a> {
 }
 
 /// Bytes that are enough for any answer.
-const ROOM: usize = 2 + 2 * reference::limits::MAX_LINKS as usize;
+pub const ROOM: usize = terminal::ANSWER_MAX;
 
 impl<'a> Asker<'a> {
     pub fn new(ask: Ask, noise: &'a mut Random, bytes: &'a [u8]) -> Asker<'a> {
@@ -128,7 +140,7 @@ impl<'a> Asker<'a> {
     }
 
     /// Puts the question with so much room and this desk record. Gives what is found, or the first difference.
-    fn compare(
+    pub fn compare(
         &mut self,
         question: &Question,
         room: usize,

@@ -1,11 +1,12 @@
 //! Questions with the answers that document 01 gives, or that follow from its definitions on cards made for them.
 
 use crate::asked::Found;
+use crate::lent::RULES;
 use crate::limits::{all_pairs, flat, CARD_A};
 use reference::card::{links_file, Card};
 use reference::fast;
 use reference::records::two;
-use terminal::Question::{self, A, B, C, D, E, F};
+use terminal::Question::{self, A, B, C, D, E, F, G};
 
 /// What a question gives.
 pub enum Said {
@@ -13,6 +14,8 @@ pub enum Said {
     Value(u32),
     /// The numbers of C to F.
     Numbers(Vec<u16>),
+    /// The triangles of G.
+    Triangles(Vec<[u16; 3]>),
     Refused(u32),
 }
 
@@ -35,6 +38,12 @@ impl Known {
                 let count = numbers.next().map(usize::from);
                 refusal == 0 && count == Some(said.len()) && numbers.eq(said.iter().copied())
             }
+            Said::Triangles(said) => {
+                let count = numbers.next().map(usize::from);
+                refusal == 0
+                    && count == Some(said.len())
+                    && numbers.eq(said.iter().flatten().copied())
+            }
         }
     }
 }
@@ -53,6 +62,11 @@ fn numbers(rows: Vec<(Question, Vec<u16>)>) -> Vec<(Question, Said)> {
     rows.into_iter().map(said).collect()
 }
 
+fn triangles(rows: Vec<(Question, Vec<[u16; 3]>)>) -> Vec<(Question, Said)> {
+    let said = |(question, triangles)| (question, Said::Triangles(triangles));
+    rows.into_iter().map(said).collect()
+}
+
 fn refused(rows: Vec<(Question, u32)>) -> Vec<(Question, Said)> {
     let said = |(question, number)| (question, Said::Refused(number));
     rows.into_iter().map(said).collect()
@@ -60,8 +74,8 @@ fn refused(rows: Vec<(Question, u32)>) -> Vec<(Question, Said)> {
 
 /// The index of a good links file, by the reference.
 pub fn index_of(file: &[u8]) -> Vec<u8> {
-    let card = Card::read(file).expect("a good links file");
-    fast::index(&card).to_bytes()
+    let card = Card::read(RULES, file).expect("a good links file");
+    fast::index(RULES, &card).to_bytes(RULES)
 }
 
 pub fn card_b() -> Vec<(u16, u16)> {
@@ -116,6 +130,9 @@ pub fn all() -> Vec<Known> {
                 (F((0, 0), 3), 11),
                 (F((0, 0), 2), 10),
                 (F((1, 0), 2), 9),
+                (G((0, 0), (0, 0), 3), 11),
+                (G((0, 0), (0, 0), 2), 10),
+                (G((0, 0), (0, 1), 2), 9),
             ]),
         ],
     );
@@ -141,6 +158,14 @@ pub fn all() -> Vec<Known> {
                 (every(&[3, 4]), vec![]),
                 (F((3, 2), 3), vec![0, 1, 2, 3, 4]),
                 (F((3, 4), 3), vec![]),
+            ]),
+            triangles(vec![
+                (G((0, 1), (3, 2), 3), vec![[0, 1, 2], [1, 2, 3]]),
+                (G((2, 1), (1, 2), 3), vec![[0, 1, 2]]),
+                (G((3, 4), (3, 4), 3), vec![]),
+                (G((3, 4), (2, 3), 3), vec![]),
+                (G((2, 3), (3, 4), 3), vec![]),
+                (G((0, 1), (0, 1), 4), vec![]),
             ]),
             refused(vec![
                 (A((0, 4)), 11),
@@ -169,9 +194,18 @@ pub fn all() -> Vec<Known> {
                 (F((0, 1), 0x103), 10),
                 (F((0, 1), 0x8000_0003), 10),
                 (F((0, 4), 3), 11),
+                (G((0, 5), (0, 4), 2), 9),
+                (G((0, 4), (0x1_0000, 1), 2), 9),
+                (G((0, 4), (0, 4), 2), 10),
+                (G((0, 1), (0, 1), 65), 10),
+                (G((0, 1), (0, 1), 0x103), 10),
+                (G((0, 1), (0, 1), u32::MAX), 10),
+                (G((0, 4), (0, 1), 3), 11),
+                (G((0, 1), (3, 3), 64), 11),
             ]),
         ],
     );
+    let far = vec![[0, 1, 2], [0, 2, 3], [2, 3, 4], [3, 4, 5], [3, 5, 6]];
     add(
         "card-b",
         links_file(7, &card_b()),
@@ -205,6 +239,16 @@ pub fn all() -> Vec<Known> {
                 (F((2, 4), 4), vec![]),
                 (F((0, 1), 64), vec![]),
             ]),
+            triangles(vec![
+                (G((2, 3), (3, 4), 3), vec![[2, 3, 4]]),
+                (G((2, 3), (3, 4), 4), vec![]),
+                (G((2, 3), (0, 1), 4), vec![[0, 2, 3], [0, 1, 2]]),
+                (G((0, 1), (5, 6), 3), far),
+                (G((0, 1), (5, 6), 4), vec![]),
+                (G((4, 3), (3, 4), 4), vec![[3, 4, 5]]),
+                (G((2, 4), (2, 4), 3), vec![[2, 3, 4]]),
+                (G((2, 4), (2, 4), 4), vec![]),
+            ]),
         ],
     );
     add(
@@ -221,6 +265,7 @@ pub fn all() -> Vec<Known> {
                 (strongest(&[1, 3]), vec![]),
                 (F((1, 2), 3), vec![0, 1, 2]),
             ]),
+            triangles(vec![(G((0, 1), (3, 4), 3), vec![])]),
         ],
     );
     let mut four_and_triangle = all_pairs(0..4);
@@ -254,6 +299,10 @@ pub fn all() -> Vec<Known> {
                 (F((0, 1), 5), (0..10).collect()),
                 (F((0, 1), 6), vec![]),
             ]),
+            triangles(vec![
+                // 0-1-4 comes first and leads to a longer chain
+                (G((1, 4), (2, 3), 5), vec![[1, 2, 4], [1, 2, 3]]),
+            ]),
         ],
     );
     add(
@@ -267,7 +316,13 @@ pub fn all() -> Vec<Known> {
                 (F((62, 63), 3), (0..2_016).collect()),
                 (F((0, 1), 64), (0..2_016).collect()),
             ]),
+            triangles(vec![
+                (G((62, 63), (60, 61), 64), vec![[60, 62, 63], [60, 61, 62]]),
+                (G((62, 63), (63, 62), 64), vec![[0, 62, 63]]),
+            ]),
             refused(vec![
+                (G((0, 1), (62, 63), 2), 10),
+                (G((0, 1), (62, 63), 65), 10),
                 (at(&[63], 2), 10),
                 (at(&[63], 65), 10),
                 (F((0, 1), 2), 10),
@@ -317,10 +372,23 @@ pub fn all() -> Vec<Known> {
     let mut strip: Vec<_> = (0..1_023).map(|a| (a, a + 1)).collect();
     strip.extend((0..1_022).map(|a| (a, a + 2)));
     strip.extend([(0, 3), (500, 503), (1_020, 1_023)]);
+    let by_the_fourth = |a| {
+        if [1, 501, 1_021].contains(&a) {
+            a - 1
+        } else {
+            a
+        }
+    };
+    let along = (0..1_022).map(|a| [by_the_fourth(a), a + 1, a + 2]);
     add(
         "longest-answer",
         links_file(1_024, &strip),
         vec![
+            triangles(vec![
+                (G((0, 1), (1_022, 1_023), 3), along.collect()),
+                (G((0, 1), (2, 3), 4), vec![[0, 1, 2], [0, 2, 3]]),
+                (G((0, 1), (500, 503), 4), vec![]),
+            ]),
             values(vec![(B((0, 1), (1_022, 1_023)), 3), (A((0, 3)), 4)]),
             numbers(vec![
                 (F((1_022, 1_023), 3), (0..2_048).collect()),
@@ -328,6 +396,22 @@ pub fn all() -> Vec<Known> {
                 (strongest(&[500]), vec![1]),
             ]),
         ],
+    );
+    // A strip of 1,023 triangles whose last account is 5 again: as long as a chain can be.
+    let place = |a: u16| if a == 1_024 { 5 } else { a };
+    let mut strip: Vec<_> = (0..1_024).map(|a| (a, place(a + 1))).collect();
+    strip.extend((0..1_023).map(|a| (a, place(a + 2))));
+    let mut chain: Vec<_> = (0..1_022).map(|a| [a, a + 1, a + 2]).collect();
+    chain.push([5, 1_022, 1_023]);
+    let back = chain.iter().rev().copied().collect();
+    add(
+        "longest-chain",
+        links_file(1_024, &strip),
+        vec![triangles(vec![
+            (G((0, 1), (5, 1_023), 3), chain),
+            (G((1_023, 5), (1, 0), 3), back),
+            (G((0, 1), (5, 1_023), 4), vec![]),
+        ])],
     );
     let nested = nest(46);
     let pairs: Vec<_> = nested.iter().map(|&(pair, _)| pair).collect();

@@ -2,6 +2,12 @@
 
 use reference::random::Random;
 use reference::reply::Reply;
+use reference::rules::Rules;
+
+/// The reference with the requests that the library has.
+pub const RULES: Rules = Rules {
+    requests: terminal::REQUESTS,
+};
 
 /// One call in the library and in the reference.
 pub struct Pair {
@@ -13,13 +19,13 @@ pub struct Pair {
 pub const BUILD: Pair = Pair {
     name: "fe_build",
     library: terminal::fe_build,
-    reference: reference::fast::build,
+    reference: |links, index| reference::fast::build(RULES, links, index, &mut []),
 };
 
 pub const READ: Pair = Pair {
     name: "fe_read",
     library: terminal::fe_read,
-    reference: reference::index::read_back,
+    reference: |index, links| reference::index::read_back(RULES, index, links, &mut []),
 };
 
 /// Bytes to be lent, in the middle of others that no call may touch. All that is not given is random.
@@ -71,15 +77,17 @@ impl Lent {
 
 /// The reference's reply as C gets it.
 pub fn four_numbers(reply: Reply) -> terminal::Reply {
-    let (refusal, value) = match reply {
-        Reply::Answered(value) => (0, value),
-        Reply::Refused { number, place } => (number.into(), place),
+    let (refusal, value, second, third) = match reply {
+        Reply::Answered(value) => (0, value, 0, 0),
+        Reply::Two(value, second) => (0, value, second, 0),
+        Reply::Three(value, second, third) => (0, value, second, third),
+        Reply::Refused { number, place } => (number.into(), place, 0, 0),
     };
     terminal::Reply {
         refusal,
         value,
-        second: 0,
-        third: 0,
+        second,
+        third,
     }
 }
 
@@ -121,7 +129,7 @@ pub fn compare_all(
     random: &mut Random,
     input: &[u8],
 ) -> Result<Option<Vec<u8>>, String> {
-    const ROOM: usize = reference::limits::MAX_INDEX_BYTES;
+    const ROOM: usize = terminal::INDEX_MAX;
     let result = compare(pair, random, input, ROOM)?;
     let Some(bytes) = &result else {
         for room in [0, random.within(1..=100), random.below(ROOM)] {

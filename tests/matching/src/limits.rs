@@ -1,5 +1,6 @@
 //! Files at the limits, each with the reply that document 01 gives it.
 
+use crate::lent::RULES;
 use reference::card::links_file;
 use reference::random::{card, Random, Shape};
 
@@ -171,7 +172,7 @@ pub fn all() -> Vec<Limit> {
         Said::Refused(1, 5 + 5 * 2_048),
     );
     for seed in 0..10 {
-        let file = card(&mut Random::new(seed), Shape::Limit, 2_048);
+        let file = card(RULES, &mut Random::new(seed), Shape::Limit, 2_048);
         add(&format!("random-2048-{seed}"), file, Said::Accepted);
     }
     for length in 0..a.len() {

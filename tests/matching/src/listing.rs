@@ -3,6 +3,8 @@
 use std::io::Write;
 use std::process::{Command, Stdio};
 
+use crate::lent::RULES;
+
 /// What the program prints for the bytes on its standard input.
 fn printed(index: &[u8]) -> std::io::Result<String> {
     let program = std::env::var_os("LISTER").unwrap_or("target/bin/lister".into());
@@ -19,7 +21,7 @@ fn printed(index: &[u8]) -> std::io::Result<String> {
 
 pub fn compare(index: &[u8]) -> Result<(), String> {
     let printed = printed(index).map_err(|error| format!("lister: {error}"))?;
-    let said = reference::lister::text(index);
+    let said = reference::lister::text(RULES, index);
     if printed == said {
         Ok(())
     } else {

@@ -1,10 +1,11 @@
 //! Matches the library's C calls against the reference, an independent program: build and reading on random, shuffled and damaged files and on files at the
-//! limits, random questions on the random indexes, good and damaged, and questions with known answers; and the lister's text.
+//! limits, random questions on the random indexes, good and damaged, questions with known answers, and question G gone through in order; and the lister's text.
 //!
-//! With no word: all of it. With a number: the files and questions of that seed. With a name: that file at the limits, or that known answer.
+//! With no word: all of it. With a number: the files and questions of that seed. With a name: that file at the limits, that known answer, or that part of G.
 //! The last line is `N passed, M failed`, one for each file and question compared and for each planted fault that the comparison must find.
 
 mod asked;
+mod chains;
 mod known;
 mod lent;
 mod limits;
@@ -16,12 +17,11 @@ mod questions;
 use std::process::ExitCode;
 
 use asked::{Asker, Met};
-use lent::{compare_all, BUILD};
+use lent::{compare_all, BUILD, RULES};
 use limits::Said;
 use questions::Asking;
 use reference::card::{links_file, Card};
 use reference::damage;
-use reference::limits::MAX_LINKS;
 use reference::random::{card, shuffle_pairs, Random, Shape};
 use terminal::Question;
 
@@ -61,7 +61,7 @@ impl Count {
 
     /// Compares the build of one links file.
     fn build(&mut self, random: &mut Random, file: &[u8]) -> Result<Option<Vec<u8>>, String> {
-        let refused = Card::read(file).err();
+        let refused = Card::read(RULES, file).err();
         self.met[refused.map_or(0, |refusal| refusal.number.into())] += 1;
         compare_all(&BUILD, random, file)
     }
@@ -94,20 +94,21 @@ fn seed(count: &mut Count, seed: u64) {
     // What is drawn must not depend on what is found, so lent memory has numbers of its own.
     let (mut random, mut noise) = (Random::new(seed), Random::new(!seed));
     let shape = Shape::ALL[seed as usize % Shape::ALL.len()];
+    let limit = RULES.max_links().into();
     let most = match random.below(8) {
-        0 => MAX_LINKS.into(),
-        1 => random.within(1..=MAX_LINKS.into()),
+        0 => limit,
+        1 => random.within(1..=limit),
         2 | 3 => random.within(1..=300),
         _ => random.within(1..=60),
     };
     let word = seed.to_string();
-    let whole = card(&mut random, shape.0, most);
+    let whole = card(RULES, &mut random, shape.0, most);
     let built = count.build(&mut noise, &whole);
     let index = built.clone().ok().flatten();
     let taken = built.and_then(|index| index.map(drop).ok_or("a good card refused".to_string()));
     count.add(&word, &whole, shape.1, taken);
 
-    let drawn = Card::read(&whole).expect("random::card draws good cards");
+    let drawn = Card::read(RULES, &whole).expect("random::card draws good cards");
     let mut pairs = drawn.links;
     shuffle_pairs(&mut random, &mut pairs);
     let shuffled = links_file(drawn.accounts, &pairs);
@@ -122,13 +123,13 @@ fn seed(count: &mut Count, seed: u64) {
     count.add(&word, &shuffled, &format!("{} shuffled", shape.1), same);
 
     for _ in 0..2 {
-        let damaged = damage::links(&mut random, &whole);
+        let damaged = damage::links(RULES, &mut random, &whole);
         let found = count.build(&mut noise, &damaged).map(drop);
         count.add(&word, &damaged, &format!("{} damaged", shape.1), found);
     }
 
     if let Some(index) = index {
-        let damaged = damage::index(&mut random, &index);
+        let damaged = damage::index(RULES, &mut random, &index);
         for (what, bytes) in [("index", &index), ("damaged index", &damaged)] {
             let found = compare_all(&lent::READ, &mut noise, bytes).map(drop);
             count.add(&word, bytes, &format!("{} {what}", shape.1), found);
@@ -228,6 +229,28 @@ fn known_answers(count: &mut Count, only: Option<&str>) {
     }
 }
 
+/// Question G gone through in order. On an index, those after a failure are left out.
+fn chains(count: &mut Count, only: Option<&str>) {
+    let wanted = |name: &str| only.is_none_or(|only| only == name);
+    for lot in chains::all().filter(|lot| wanted(lot.name)) {
+        let mut noise = Random::new(lot.index.len() as u64);
+        let mut asker = Asker::new(terminal::ask, &mut noise, &lot.index);
+        for (question, lent) in &lot.asked {
+            let found = match lent {
+                Some((room, record)) => asker.compare(question, *room, record),
+                None => asker.compare_all(question),
+            };
+            let failed = found.is_err();
+            let what = format!("asked {question:?}");
+            count.add(lot.name, &lot.index, &what, found.map(drop));
+            if failed {
+                break;
+            }
+        }
+        count.asked.merge(&asker.met);
+    }
+}
+
 fn main() -> ExitCode {
     let mut count = Count::default();
     match std::env::args().nth(1) {
@@ -235,6 +258,7 @@ fn main() -> ExitCode {
             planted_faults(&mut count);
             at_the_limits(&mut count, None);
             known_answers(&mut count, None);
+            chains(&mut count, None);
             (0..SEEDS).for_each(|number| seed(&mut count, number));
             println!(
                 "links files accepted, and refused by 1 to 6: {:?}",
@@ -251,6 +275,7 @@ fn main() -> ExitCode {
             Err(_) => {
                 at_the_limits(&mut count, Some(&word));
                 known_answers(&mut count, Some(&word));
+                chains(&mut count, Some(&word));
             }
         },
     }

@@ -2,6 +2,7 @@
 
 use std::collections::BTreeSet;
 
+use crate::lent::RULES;
 use reference::index::{Index, StrongLink};
 use reference::questions::Ends;
 use reference::random::Random;
@@ -16,7 +17,7 @@ pub struct Asking {
 
 impl Asking {
     pub fn of(index: &[u8]) -> Asking {
-        let index = Index::read(index).expect("the index of a good card");
+        let index = Index::read(RULES, index).expect("the index of a good card");
         let mut held = vec![BTreeSet::new(); index.groups.len()];
         for link in &index.links {
             for group in index.climb(link.group) {
@@ -37,9 +38,9 @@ impl Asking {
         }
     }
 
-    /// A question of one of the six kinds.
+    /// A question of one of the seven kinds.
     pub fn draw(&self, random: &mut Random) -> Question {
-        match random.below(6) {
+        match random.below(7) {
             0 => Question::A(self.link(random)),
             1 => {
                 let (first, second) = self.two_links(random);
@@ -48,7 +49,11 @@ impl Asking {
             2 => Question::C(self.accounts(random), self.level(random)),
             3 => Question::D(self.accounts(random)),
             4 => Question::E(self.accounts(random)),
-            _ => Question::F(self.link(random), self.level(random)),
+            5 => Question::F(self.link(random), self.level(random)),
+            _ => {
+                let (first, second) = self.two_links(random);
+                Question::G(first, second, self.level_of(random, first, second))
+            }
         }
     }
 
@@ -141,6 +146,32 @@ impl Asking {
             4 => random.pick(&[0xFFFF, 0x1_0000, 0x8000_0000, 0xFFFF_0000]),
             _ => n.max(random.number() as u32),
         }
+    }
+
+    /// A level for two links: mostly the greatest at which they are joined, or one more.
+    fn level_of(&self, random: &mut Random, first: Ends, second: Ends) -> u32 {
+        let joined = self.joined(first, second);
+        match random.below(4) {
+            0 => self.level(random),
+            _ if joined == 0 => 3,
+            1 => random.within(3..=joined.into()) as u32,
+            _ => u32::from(joined) + random.pick(&[0, 0, 1]),
+        }
+    }
+
+    /// The greatest k at which two pairs are joined; 0 if there is none.
+    fn joined(&self, first: Ends, second: Ends) -> u16 {
+        let groups = |(a, b): Ends| {
+            let ends = u16::try_from(a).ok().zip(u16::try_from(b).ok());
+            let link = ends.and_then(|(a, b)| self.index.number(a, b));
+            let group = link.and_then(|link| self.index.links[link].group);
+            self.index.climb(group).collect::<Vec<_>>()
+        };
+        let above = groups(second);
+        let common = groups(first)
+            .into_iter()
+            .find(|group| above.contains(group));
+        common.map_or(0, |group| self.index.groups[usize::from(group)].strength)
     }
 
     /// A level, mostly around the strength of some group.

@@ -1,5 +1,12 @@
 //! The calls of include/footballelm.h, as a C host makes them.
 
+/// So many requests of document 02 are in the library; the reference goes by this number.
+pub const REQUESTS: u8 = 1;
+
+/// FE_INDEX_MAX, and FE_CHAIN_MAX, which is enough for any answer.
+pub const INDEX_MAX: usize = 40_960;
+pub const ANSWER_MAX: usize = 6_140;
+
 #[repr(C)]
 #[derive(Clone, Copy, Debug, PartialEq, Eq)]
 pub struct Reply {
@@ -75,6 +82,19 @@ extern "C" {
         desk: *mut u8,
         desk_len: usize,
     ) -> Reply;
+    pub fn fe_chain(
+        index: *const u8,
+        index_len: usize,
+        a: u32,
+        b: u32,
+        c: u32,
+        d: u32,
+        k: u32,
+        answer: *mut u8,
+        answer_len: usize,
+        desk: *mut u8,
+        desk_len: usize,
+    ) -> Reply;
 }
 
 pub fn build(links: &[u8], index: &mut [u8]) -> Reply {
@@ -94,6 +114,7 @@ pub enum Question {
     D(Vec<u8>),
     E(Vec<u8>),
     F((u32, u32), u32),
+    G((u32, u32), (u32, u32), u32),
 }
 
 impl Question {
@@ -105,10 +126,11 @@ impl Question {
             Question::D(..) => 'D',
             Question::E(..) => 'E',
             Question::F(..) => 'F',
+            Question::G(..) => 'G',
         }
     }
 
-    /// The accounts that are lent; none in A, B and F.
+    /// The accounts that are lent; none but in C, D and E.
     pub fn accounts(&self) -> &[u8] {
         match self {
             Question::C(accounts, _) | Question::D(accounts) | Question::E(accounts) => accounts,
@@ -120,7 +142,7 @@ impl Question {
 /// A slice as C is lent it: where it begins and how long it is.
 pub type Slice = (*mut u8, usize);
 
-/// What a question is lent. A, B and F take no accounts, A and B no answer.
+/// What a question is lent. Only C, D and E take accounts; A and B take no answer.
 #[derive(Clone, Copy)]
 pub struct Slices {
     pub index: Slice,
@@ -147,6 +169,7 @@ pub unsafe fn ask(question: &Question, lent: &Slices) -> Reply {
         Question::D(_) => fe_strongest_groups(i, m, v, n, o, r, t, s),
         Question::E(_) => fe_all_groups(i, m, v, n, o, r, t, s),
         Question::F((a, b), k) => fe_group_links(i, m, a, b, k, o, r, t, s),
+        Question::G((a, b), (c, d), k) => fe_chain(i, m, a, b, c, d, k, o, r, t, s),
     }
 }
 
