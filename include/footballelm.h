@@ -17,16 +17,20 @@ typedef struct {
     uint32_t refusal, value, second, third;
 } fe_reply;
 
-/* Bytes that are enough for any index, for any links file, and for any answer (a count and 2,048 numbers). */
+/* Bytes that are enough for any index, for any links file, and for any answer of C to F (a count and 2,048 numbers). */
 #define FE_INDEX_MAX 40960
 #define FE_LINKS_MAX 10246
 #define FE_ANSWER_MAX 4098
+
+/* Bytes that are enough for any answer, G's too: 2 + 6 * ((2048 - 1) / 2), since a shortest chain of L triangles has at least 2L + 1 different links (laws: shortest-room).
+ * Some card has an answer of just so many. */
+#define FE_CHAIN_MAX 6140
 
 /* Bytes of a desk record that the calls use. */
 #define FE_DESK 4
 
 /* Bytes of stack that are enough for any call, below the caller's frame. Measured by tests/c/stack.c, not proved: fe_build took 156,119 of them, fe_read 148,007,
- * a question up to 148,407, and the first call of a program that binds memset only then 3,184 more. A thread needs this and what its own functions and the C library
+ * a question up to 148,423, and the first call of a program that binds memset only then 3,184 more. A thread needs this and what its own functions and the C library
  * take. */
 #define FE_STACK_MAX 163840
 
@@ -88,10 +92,11 @@ fe_reply fe_read(const uint8_t *index, size_t index_len, uint8_t *links, size_t 
  * What is lent:
  *   index, index_len        the index; it is only read. Any bytes may be lent: every question checks them all, which costs about one build.
  *   accounts, accounts_len  1 to 16 accounts, two bytes each, high byte first; they are only read. A repeat counts as one more and changes no answer.
- *   answer, answer_len      where the answer of C to F goes: a count, then that many numbers, rising, each of these two bytes, high byte first.
+ *   answer, answer_len      where the answer of C to G goes: a count, then of C to F that many numbers, rising, of G that many triangles of three accounts;
+ *                           count, number and account each of two bytes, high byte first.
  *   desk, desk_len          the desk record: its first four bytes are the tally of questions answered, high byte first.
  *
- * Done: `value` is the answer of A and B, the number of bytes written at `answer` by C to F; the bytes after those stay. The tally is one more, but rests at
+ * Done: `value` is the answer of A and B, the number of bytes written at `answer` by C to G; the bytes after those stay. The tally is one more, but rests at
  * 4,294,967,295; the bytes of the desk record after the fourth stay.
  *
  * Refused, with place 0: the first of the call's refusals that applies. The tally stays.
@@ -99,8 +104,8 @@ fe_reply fe_read(const uint8_t *index, size_t index_len, uint8_t *links, size_t 
  *     8   no account named, over 16, or an odd accounts_len
  *     9   an account not below the number of accounts
  *     10  k below 3 or above 64
- *     11  the pair is no link
- *     12  the answer is longer than answer_len; a buffer of just its length suffices, which is two bytes for no numbers. Or desk_len is below FE_DESK */
+ *     11  a pair is no link
+ *     12  the answer is longer than answer_len; a buffer of just its length suffices, which is two bytes for a count of 0. Or desk_len is below FE_DESK */
 
 /* A. The strength of the link a-b. Refused by 7, 9, 11, 12, in this order. */
 fe_reply fe_strength(const uint8_t *index, size_t index_len, uint32_t a, uint32_t b, uint8_t *desk, size_t desk_len);
@@ -124,6 +129,14 @@ fe_reply fe_all_groups(const uint8_t *index, size_t index_len, const uint8_t *ac
 /* F. The numbers of the links of the group at k with the link a-b; none if its strength is below k. Refused by 7, 9, 10, 11, 12, in this order. */
 fe_reply fe_group_links(const uint8_t *index, size_t index_len, uint32_t a, uint32_t b, uint32_t k, uint8_t *answer, size_t answer_len,
                         uint8_t *desk, size_t desk_len);
+
+/* G. A shortest chain between the links a-b and c-d at k: the fewest triangles, all of links of strength k or more, of which the first has a-b, the last has
+ * c-d, and each shares a link with the next. It shows how two parties of one group hang together. The triangles stand in the chain's order, the accounts of each
+ * rising. Among equally short chains it is the one that comes first by those accounts, triangle by triangle from a-b; asked from c-d it may be another. A link
+ * with itself gives one triangle if its strength is k or more. The count is 0 if no group at k has both links, and only then.
+ * Refused by 7, 9 (any of the four accounts), 10, 11 (either pair), 12, in this order. */
+fe_reply fe_chain(const uint8_t *index, size_t index_len, uint32_t a, uint32_t b, uint32_t c, uint32_t d, uint32_t k, uint8_t *answer, size_t answer_len,
+                  uint8_t *desk, size_t desk_len);
 
 #ifdef __cplusplus
 }

@@ -20,7 +20,7 @@ static const uint8_t CARD[] = {
 /* Accounts as questions name them, two bytes each. */
 static const uint8_t THREE[] = {0, 3}, TWO_AND_FOUR[] = {0, 2, 0, 4}, SEVEN[] = {0, 7};
 
-static uint8_t index_bytes[FE_INDEX_MAX], answer[FE_ANSWER_MAX], desk[FE_DESK];
+static uint8_t index_bytes[FE_INDEX_MAX], answer[FE_CHAIN_MAX], desk[FE_DESK];
 
 /* Who can put a refusal right, and its reason. */
 static const char *const WHY[13][2] = {
@@ -35,7 +35,7 @@ static const char *const WHY[13][2] = {
     {"window", "no account is named, over 16 are, or the byte length is odd"},
     {"window", "an account is not below the number of accounts"},
     {"window", "k is below 3 or above 64"},
-    {"window", "the pair is no link"},
+    {"window", "a pair is no link"},
     {"host", "the result is longer than the buffer lent for it, or the desk record is below four bytes"},
 };
 
@@ -67,6 +67,29 @@ static void list(const char *text, fe_reply r, int links) {
         else printf(" %u", it);
     }
     printf(".\n");
+}
+
+static int is_in(unsigned account, const uint8_t *triangle) {
+    return account == two(triangle) || account == two(triangle + 2) || account == two(triangle + 4);
+}
+
+/* The answer of G, as a supervisor reads it to two parties: triangle by triangle, each with the link that leads on to the next. */
+static void chain(const char *links, unsigned k, fe_reply r) {
+    if (r.refusal) {
+        refused(r);
+        return;
+    }
+    unsigned count = two(answer);
+    if (count == 0) printf("%s do not hang together at %u.\n", links, k);
+    else printf("%s hang together at %u, by %u triangle%s:\n", links, k, count, count == 1 ? "" : "s");
+    for (const uint8_t *t = answer + 2; count > 0; t += 6, count--) {
+        printf("  %u, %u and %u are all linked", two(t), two(t + 2), two(t + 4));
+        if (count > 1) { /* two of the three are in the next */
+            int first = is_in(two(t), t + 6), last = is_in(two(t + 4), t + 6);
+            printf("; on by %u-%u", two(first ? t : t + 2), two(last ? t + 4 : t + 2));
+        }
+        printf("\n");
+    }
 }
 
 /* The card built with one byte changed. */
@@ -103,6 +126,9 @@ int main(void) {
     list("All groups with account 3", r, 0);
     list("Links of the group at 4 with 3-4", fe_group_links(index_bytes, length, 3, 4, 4, answer, sizeof answer, desk, sizeof desk), 1);
     list("Links of the group at 4 with 2-4", fe_group_links(index_bytes, length, 2, 4, 4, answer, sizeof answer, desk, sizeof desk), 1);
+    chain("2-3 and 3-4", 3, fe_chain(index_bytes, length, 2, 3, 3, 4, 3, answer, sizeof answer, desk, sizeof desk));
+    chain("2-3 and 3-4", 4, fe_chain(index_bytes, length, 2, 3, 3, 4, 4, answer, sizeof answer, desk, sizeof desk));
+    chain("0-1 and 5-6", 3, fe_chain(index_bytes, length, 0, 1, 5, 6, 3, answer, sizeof answer, desk, sizeof desk));
     tally();
 
     refused(build_changed(70, 6)); /* another link where the end should be */
@@ -119,6 +145,9 @@ int main(void) {
     refused(fe_group_links(index_bytes, length, 2, 3, 65, answer, sizeof answer, desk, sizeof desk));
     refused(fe_strength(index_bytes, length, 0, 6, desk, sizeof desk));
     refused(fe_all_groups(index_bytes, length, THREE, sizeof THREE, answer, 7, desk, sizeof desk)); /* three groups take 8 bytes */
+    refused(fe_chain(index_bytes, length, 0, 1, 5, 7, 3, answer, sizeof answer, desk, sizeof desk)); /* the second link: 5-7, and there is no account 7 */
+    refused(fe_chain(index_bytes, length, 0, 1, 0, 6, 3, answer, sizeof answer, desk, sizeof desk)); /* 0-6 */
+    refused(fe_chain(index_bytes, length, 0, 1, 5, 6, 3, answer, 31, desk, sizeof desk));            /* five triangles take 32 bytes */
     tally();
     return 0;
 }
