@@ -5,18 +5,24 @@
 //! turns; the calls take turns, so that all meet the same machine. igraph computes strengths only: no forest, no groups, no bytes.
 
 use std::cmp::Reverse;
-use std::collections::BTreeSet;
+use std::collections::{BTreeSet, VecDeque};
 use std::hint::black_box;
 use std::path::Path;
 use std::process::Command;
 use std::time::{Duration, Instant};
 
 use reference::index::{Index, StrongLink};
-use reference::limits::{MAX_ACCOUNTS, MAX_INDEX_BYTES, MAX_LINKS, MAX_NAMED};
+use reference::net::Net;
 use reference::records::two;
-use terminal::Question;
+use reference::rules::{Rules, MAX_ACCOUNTS, MAX_NAMED};
+use terminal::{Question, ANSWER_MAX, INDEX_MAX};
 
 const TURNS: usize = 3_000;
+
+/// The reference with the requests that the library has.
+const RULES: Rules = Rules {
+    requests: terminal::REQUESTS,
+};
 
 struct Least(Duration);
 
@@ -40,8 +46,66 @@ fn igraph(program: &str, card: &Path) -> Option<f64> {
     text.trim().split("best_us=").nth(1)?.parse().ok()
 }
 
-/// One question of each kind with much to do. The accounts and the link of F are of the group with the most links, the accounts those with the most links in all.
-fn questions(index: &Index) -> [Question; 6] {
+/// By link, the fewest triangles of weight at least k that lead to it from this one; none if there is no chain.
+fn lengths(net: &Net, links: usize, from: u16, k: u16) -> Vec<Option<u32>> {
+    let mut lengths = vec![None; links];
+    lengths[usize::from(from)] = Some(0);
+    let mut ahead = VecDeque::from([from]);
+    while let Some(link) = ahead.pop_front() {
+        let next = lengths[usize::from(link)].map(|length| length + 1);
+        for other in net.heavy(link, k).into_iter().flat_map(|(_, pair)| pair) {
+            if lengths[usize::from(other)].is_none() {
+                lengths[usize::from(other)] = next;
+                ahead.push_back(other);
+            }
+        }
+    }
+    lengths
+}
+
+/// Two links far apart at k, with the fewest triangles between them: in each group at k from some link to the farthest, from that to the farthest, and so on.
+fn far_apart(index: &Index, k: u16) -> (u32, u16, u16) {
+    const STEPS: usize = 6;
+    let net = Net::new(index);
+    let mut met = vec![false; index.links.len()];
+    let mut found = (0, 0, 0);
+    for link in 0..index.links.len() as u16 {
+        let mut from = link;
+        let new = index.links[usize::from(link)].strength >= k && !met[usize::from(link)];
+        for _ in 0..if new { STEPS } else { 0 } {
+            let lengths = lengths(&net, index.links.len(), from, k);
+            let reached = (0..).zip(&lengths);
+            let reached = reached.filter_map(|(link, length)| length.map(|length| (length, link)));
+            reached
+                .clone()
+                .for_each(|(_, link): (_, u16)| met[usize::from(link)] = true);
+            let (length, farthest) = reached.max().expect("the link itself");
+            found = found.max((length, from, farthest));
+            from = farthest;
+        }
+    }
+    found
+}
+
+/// Questions G: the longest chain of any k, and the longest at a k in the middle.
+fn chains(index: &Index) -> [Question; 2] {
+    let strengths = index.links.iter().map(|link| link.strength);
+    let greatest = strengths.max().expect("a card with a link");
+    let middle = (greatest / 2 + 1).max(3);
+    let longest = (3..=greatest).max_by_key(|&k| (far_apart(index, k).0, Reverse(k)));
+    [longest.expect("a card with a triangle"), middle].map(|k| {
+        let (_, first, second) = far_apart(index, k);
+        let ends = |link: u16| {
+            let link = &index.links[usize::from(link)];
+            (link.lower.into(), link.higher.into())
+        };
+        Question::G(ends(first), ends(second), k.into())
+    })
+}
+
+/// One question of each kind with much to do, of G two. The accounts and the link of F are of the group with the most links, the accounts those with the most
+/// links in all.
+fn questions(index: &Index) -> [Question; 8] {
     let held_by = |link: &StrongLink| index.climb(link.group).collect::<BTreeSet<_>>();
     let ends = |link: &StrongLink| (link.lower.into(), link.higher.into());
     let links: &[StrongLink] = &index.links;
@@ -74,6 +138,7 @@ fn questions(index: &Index) -> [Question; 6] {
     let named = accounts.iter().cycle().take(MAX_NAMED);
     let named: Vec<u8> = named.flat_map(|account| account.to_be_bytes()).collect();
 
+    let [longest, middle] = chains(index);
     [
         Question::A(ends(last)),
         Question::B(ends(deepest), ends(farthest)),
@@ -81,6 +146,8 @@ fn questions(index: &Index) -> [Question; 6] {
         Question::D(named.clone()),
         Question::E(named),
         Question::F(ends(of_largest), 3),
+        longest,
+        middle,
     ]
 }
 
@@ -97,38 +164,43 @@ fn main() {
     let mut asked = String::new();
     for card in &cards {
         let file = std::fs::read(card).expect("a links file");
-        let (mut ours, mut theirs) = ([0; MAX_INDEX_BYTES], [0; MAX_INDEX_BYTES]);
+        let (mut ours, mut theirs) = ([0; INDEX_MAX], [0; INDEX_MAX]);
         let reply = terminal::build(&file, &mut ours);
         if reply.refusal != 0 {
             continue;
         }
-        reference::fast::build(&file, &mut theirs);
+        reference::fast::build(RULES, &file, &mut theirs, &mut []);
         assert!(ours == theirs, "the two indexes differ");
         let links = usize::from(two(&file, 3));
         let greatest = (0..links).map(|link| ours[5 + 8 * link + 5]).max();
 
         let index = &ours[..reply.value as usize].to_vec();
-        let mut back = [0; MAX_INDEX_BYTES];
+        let mut back = [0; INDEX_MAX];
         assert!(
             terminal::read(index, &mut back).refusal == 0,
             "an index is refused"
         );
 
-        let questions = questions(&Index::read(index).expect("an index"));
-        let (mut answer, mut desk) = ([0; 2 + 2 * MAX_LINKS as usize], [0; 4]);
-        for question in &questions {
+        let questions = questions(&Index::read(RULES, index).expect("an index"));
+        let (mut answer, mut desk) = ([0; ANSWER_MAX], [0; 4]);
+        let mut notes = [const { String::new() }; 8];
+        for (question, note) in questions.iter().zip(&mut notes) {
             let reply = terminal::put(question, index, &mut answer, &mut desk);
             assert!(reply.refusal == 0, "a question is refused");
+            if let Question::G(_, _, k) = question {
+                *note = format!(" ({} at {k})", two(&answer, 0));
+            }
         }
 
         let mut library = Least(Duration::MAX);
         let mut reading = Least(Duration::MAX);
         let mut reference = Least(Duration::MAX);
-        let mut asking = [const { Least(Duration::MAX) }; 6];
+        let mut asking = [const { Least(Duration::MAX) }; 8];
         for _ in 0..TURNS {
             library.time(|| terminal::build(black_box(&file), &mut ours));
             reading.time(|| terminal::read(black_box(index), &mut back));
-            reference.time(|| reference::fast::build(black_box(&file), &mut theirs));
+            reference
+                .time(|| reference::fast::build(RULES, black_box(&file), &mut theirs, &mut []));
             for (question, least) in questions.iter().zip(&mut asking) {
                 least.time(|| terminal::put(black_box(question), index, &mut answer, &mut desk));
             }
@@ -147,10 +219,10 @@ fn main() {
             igraph.map_or("-".to_string(), |time| format!("{time:.1}")),
         );
         asked += &format!("\n| {name} |");
-        for least in &asking {
-            asked += &format!(" {:.2} |", least.micros() / library.micros());
+        for (least, note) in asking.iter().zip(&notes) {
+            asked += &format!(" {:.2}{note} |", least.micros() / library.micros());
         }
     }
-    println!("\n| card | A / build | B / build | C / build | D / build | E / build | F / build |");
-    println!("|---|---|---|---|---|---|---|{asked}");
+    println!("\n| card | A / build | B / build | C / build | D / build | E / build | F / build | G / build, longest | G / build, middle |");
+    println!("|---|---|---|---|---|---|---|---|---|{asked}");
 }
