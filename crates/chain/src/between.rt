@@ -1,4 +1,4 @@
-// Question G on the bytes of an index: its strong links into the work space, the search from the second link, the chain from the first.
+// Question G on the bytes of an index: its links of strength at least k into the work space, the search from the second link, the chain from the first.
 ghost use Rattle.chain.specs.Between.{LeadAsks, LeadGives, WayAsks, WayGives, InAsks, BetweenAsks, Answered, Beyond};
 use crate::load::count_strong;
 use crate::load::load_strong;
@@ -62,7 +62,7 @@ fn way_between(w: &mut [u32], m: usize, n: usize, a: usize, b: usize, c: usize, 
     }
 }
 
-// The same on an index of m links, of which h have strength k, in a work space for those.
+// The same on an index of m links, of which h have strength k or more, in a work space for those.
 fn between_in(
     s: &[u8],
     out: &mut [u8],
@@ -92,7 +92,7 @@ fn between_in(
 }
 
 // The bytes that the answer has: the count and the triangles of the shortest chain at k from the link a-b to the link c-d. They are written at the front of what is
-// lent if they fit, and nothing is if not. The work space is 0 before; the part that the strong links take of it is scratch, the rest stays.
+// lent if they fit, and nothing is if not. The work space is 0 before; the part that the links of strength at least k take of it is scratch, the rest stays.
 pub fn chain_between(
     s: &[u8],
     out: &mut [u8],

@@ -9,7 +9,7 @@ use native.Mathlib.Nat.{le-antisymm}
 use native.Mathlib.Omega.{arith}
 use lib.Dec.{eqb, ltb, leb}
 use lib.ListN.{length, getD}
-use borrow.Author.Tests.{eq-eqb, eqb-true, lt-ltb, le-ltb, ltb-true, le-leb, leb-true}
+use borrow.Author.Tests.{eq-eqb, eqb-true, lt-ltb, le-ltb, ltb-true, le-leb, leb-true, not-true}
 use Rattle.truss.specs.Lists.{filter, any, position, range}
 use Rattle.truss.specs.Graph.{Link, Graph, Triangle, Has, is-ab, is-ac, is-bc, link, linkBefore, member, sideAB, sideAC, sideBC, triangles, trianglesOn}
 use Rattle.truss.specs.Strength.{weight}
@@ -232,10 +232,6 @@ module _ (G : Graph) (o : InOrder G) (k : ℕ) where
 some-length : {A : Type 0} (xs : List A) {x : A} → In x xs → 0 < length xs
 some-length [] m = absurd (in-nil m)
 some-length (y ∷ ys) m = omega arith
-
-not-true : (b : Bool) → not b ≡ true → b ≡ false
-not-true true h = sym h
-not-true false h = refl
 
 position-before : {A : Type 0} (d : A) (p : A → Bool) (xs : List A) (i : ℕ) → i < position p xs → p (getD xs i d) ≡ false
 unfolding position
