@@ -13,19 +13,22 @@ use crate::rows::link_group;
 use crate::rows::link_strength;
 use limits::NO_GROUP;
 
-// From group g, whose strength is at least k, up to the group at k. Numbers rise at each step.
+// From group g, whose strength is at least k, up to the group at k. Numbers rise at each step and stay below count.
 fn climb(s: &[u8], at: usize, count: usize, k: usize, g: usize) -> usize
     requires { ⌜ ClimbAsks (now s) at count k g ⌝ }
     ensures { λ r. ⌜ Climbed (graphIn (now (s .entry))) k g r ⌝ }
 {
-    let p = group_parent(s, at, g);
-    if p == NO_GROUP {
-        return g;
+    let mut h = g;
+    loop {
+        let p = group_parent(s, at, h);
+        if p == NO_GROUP {
+            return h;
+        }
+        if group_strength(s, at, p) < k {
+            return h;
+        }
+        h = p;
     }
-    if group_strength(s, at, p) < k {
-        return g;
-    }
-    climb(s, at, count, k, p)
 }
 
 // The number of the group at k with link i, NO_GROUP if the link's strength is below k.
