@@ -29,9 +29,10 @@ typedef struct {
 /* Bytes of a desk record that the calls use. */
 #define FE_DESK 4
 
-/* Bytes of stack that are enough for any call, below the caller's frame. Measured by tests/c/stack.c, not proved: fe_build took 156,119 of them, fe_read 148,007,
- * a question up to 148,423, and the first call of a program that binds memset only then 3,184 more. A thread needs this and what its own functions and the C library
- * take. */
+/* Bytes of stack that are enough for any call, below the caller's frame. No function calls itself, directly or through others, and each frame has a fixed size, so the
+ * deepest row of calls bounds every call, whatever is lent: 156,104 bytes of fe_build, 147,992 of fe_read, 148,424 of a question. Summed from the object code
+ * (tests/frames) and measured (tests/c/stack.c), not proved. The other 7,736 bytes are for the C library's memset and memcpy: a first call that had to bind memset took
+ * 3,184 of them. A thread needs all this and what its own functions take. */
 #define FE_STACK_MAX 163840
 
 /* Every call:
