@@ -53,3 +53,6 @@ pub mod GroupPlaces
 -- the shortest chain between two links (question G)
 pub mod Shortest
 pub mod ShortestRoom
+-- tallies over a run of questions; the window, the record as bytes
+pub mod Run
+pub mod Windows

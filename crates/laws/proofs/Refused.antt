@@ -7,7 +7,7 @@ use Rattle.truss.specs.Refusal.{Checked, passed, refused, mapPassed}
 use Rattle.truss.specs.LinksFile.{readLinks, readBack}
 use Rattle.truss.specs.IndexFile.{readIndex}
 use Rattle.truss.specs.Question.{Question, Answer}
-use Rattle.truss.specs.Call.{write, checkRoom, indexOf, build, read, settle, settleBytes, checkedAnswer, checkDesk, ask, askBytes}
+use Rattle.truss.specs.Call.{write, checkRoom, indexOf, build, read, settle, settleBytes, checkedAnswer, checkWindow, checkDesk, ask, askBytes}
 use Rattle.truss.specs.Kept.{RefusalKeeps}
 
 written-kept : (x : Checked (List ℕ)) (buffer : List ℕ) → write x buffer .reply .refusal ≢ 0 → write x buffer .buffer ≡ buffer
@@ -15,17 +15,17 @@ unfolding write
 written-kept (passed b) buffer ne = absurd (ne refl)
 written-kept (refused r) buffer ne = refl
 
-settled-kept : (x : Checked Answer) (buffer : List ℕ) (t : ℕ) → settle x buffer t .reply .refusal ≢ 0
-    → (settle x buffer t .buffer ≡ buffer) × (settle x buffer t .tally ≡ t)
+settled-kept : (x : Checked Answer) (buffer : List ℕ) (w : ℕ) (tallies : List ℕ) → settle x buffer w tallies .reply .refusal ≢ 0
+    → (settle x buffer w tallies .buffer ≡ buffer) × (settle x buffer w tallies .tallies ≡ tallies)
 unfolding settle
-settled-kept (passed a) buffer t ne = absurd (ne refl)
-settled-kept (refused r) buffer t ne = (refl, refl)
+settled-kept (passed a) buffer w tallies ne = absurd (ne refl)
+settled-kept (refused r) buffer w tallies ne = (refl, refl)
 
-settled-bytes-kept : (x : Checked Answer) (buffer desk : List ℕ) → settleBytes x buffer desk .reply .refusal ≢ 0
-    → (settleBytes x buffer desk .buffer ≡ buffer) × (settleBytes x buffer desk .desk ≡ desk)
+settled-bytes-kept : (x : Checked Answer) (buffer : List ℕ) (w : ℕ) (desk : List ℕ) → settleBytes x buffer w desk .reply .refusal ≢ 0
+    → (settleBytes x buffer w desk .buffer ≡ buffer) × (settleBytes x buffer w desk .desk ≡ desk)
 unfolding settleBytes
-settled-bytes-kept (passed a) buffer desk ne = absurd (ne refl)
-settled-bytes-kept (refused r) buffer desk ne = (refl, refl)
+settled-bytes-kept (passed a) buffer w desk ne = absurd (ne refl)
+settled-bytes-kept (refused r) buffer w desk ne = (refl, refl)
 
 -- "no refused call changes an answer buffer or the tally"
 pub refusal-keeps : RefusalKeeps
@@ -33,6 +33,6 @@ unfolding build read ask askBytes
 refusal-keeps = record {
   build = λ file buffer. written-kept (checkRoom (mapPassed indexOf (readLinks file)) buffer) buffer;
   read = λ bytes buffer. written-kept (checkRoom (mapPassed readBack (readIndex bytes)) buffer) buffer;
-  ask = λ bytes q buffer. settled-kept (checkedAnswer bytes q buffer) buffer;
-  ask-bytes = λ bytes q buffer desk. settled-bytes-kept (checkDesk (checkedAnswer bytes q buffer) desk) buffer desk;
+  ask = λ bytes q buffer w. settled-kept (checkWindow w (checkedAnswer bytes q buffer)) buffer w;
+  ask-bytes = λ bytes q buffer w desk. settled-bytes-kept (checkWindow w (checkDesk (checkedAnswer bytes q buffer) desk)) buffer w desk;
 }

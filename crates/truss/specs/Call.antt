@@ -1,9 +1,9 @@
 -- Whole calls: what each gives back and every lent byte afterwards, from its arguments and the lent bytes alone.
 use mathlib.Core.List.{List, [], _∷_, _++_}
 use Prim.Native.Nat.{ℕ, suc, _+_, _*_, _/_, _%_, min}
-use lib.Dec.{ltb}
-use lib.ListN.{length, drop}
-use Rattle.truss.specs.Limits.{maxTally, tallyLength}
+use lib.Dec.{ltb, leb}
+use lib.ListN.{length, getD, take, drop, set}
+use Rattle.truss.specs.Limits.{windows, maxTally, tallyLength, deskLength}
 use Rattle.truss.specs.Lists.{concatMap}
 use Rattle.truss.specs.Graph.{Triangle, graphOf}
 use Rattle.truss.specs.Refusal.{Refusal, Checked, passed, refused, refuseIf, andThen, mapPassed}
@@ -89,6 +89,12 @@ unfoldable pub checkedAnswer : List ℕ → Question → List ℕ → Checked An
 unfolding andThen readIndex answer answerBytes
 checkedAnswer bytes q buffer = andThen (readIndex bytes) (λ G. andThen (answer G q) (λ a. withRoom (answerBytes a) buffer a))
 
+-- ---- the desk
+
+-- 13: "window above 31, ahead of all others"
+abbrev pub checkWindow : ℕ → Checked Answer → Checked Answer
+checkWindow w rest = refuseIf (leb windows w) 13 0 rest
+
 -- "one more when answered, unmoved when refused, and resting at 4,294,967,295"
 abbrev pub nextTally : ℕ → ℕ
 nextTally t = min (suc t) maxTally
@@ -96,17 +102,23 @@ nextTally t = min (suc t) maxTally
 pub record Asked : Type 0 where
   pub reply : Reply
   pub buffer : List ℕ
-  pub tally : ℕ
+  pub tallies : List ℕ
 
-unfoldable pub settle : Checked Answer → List ℕ → ℕ → Asked
+-- "An answered question moves only that window's tally"; the tallies stand in window order
+unfoldable pub settle : Checked Answer → List ℕ → ℕ → List ℕ → Asked
 unfolding answerBytes answerValue
-settle (passed a) buffer t = record { reply = done (answerValue a); buffer = overwrite (answerBytes a) buffer; tally = nextTally t }
-settle (refused r) buffer t = record { reply = notDone r; buffer = buffer; tally = t }
+settle (passed a) buffer w tallies =
+    record {
+      reply = done (answerValue a);
+      buffer = overwrite (answerBytes a) buffer;
+      tallies = set tallies w (nextTally (getD tallies w 0));
+    }
+settle (refused r) buffer w tallies = record { reply = notDone r; buffer = buffer; tallies = tallies }
 
--- a question on the bytes of an index, with a lent answer buffer and the desk's tally
-unfoldable pub ask : List ℕ → Question → List ℕ → ℕ → Asked
+-- a question of window w on the bytes of an index, with a lent answer buffer and the desk's tallies: "every question names its window"
+unfoldable pub ask : List ℕ → Question → List ℕ → ℕ → List ℕ → Asked
 unfolding settle checkedAnswer
-ask bytes q buffer t = settle (checkedAnswer bytes q buffer) buffer t
+ask bytes q buffer w tallies = settle (checkWindow w (checkedAnswer bytes q buffer)) buffer w tallies
 
 -- ---- the desk record as bytes
 
@@ -117,6 +129,13 @@ tallyBytes t = t / 16777216 % 256 ∷ t / 65536 % 256 ∷ t / 256 % 256 ∷ t % 
 abbrev pub tallyIn : List ℕ → ℕ
 tallyIn d = byteAt d 0 * 16777216 + byteAt d 1 * 65536 + byteAt d 2 * 256 + byteAt d 3
 
+-- the tally of window w in the record, and the record with t in its place
+abbrev pub tallyAt : ℕ → List ℕ → ℕ
+tallyAt w desk = tallyIn (drop (w * tallyLength) desk)
+
+abbrev pub putTally : ℕ → ℕ → List ℕ → List ℕ
+putTally w t desk = take (w * tallyLength) desk ++ overwrite (tallyBytes t) (drop (w * tallyLength) desk)
+
 pub record AskedBytes : Type 0 where
   pub reply : Reply
   pub buffer : List ℕ
@@ -125,19 +144,19 @@ pub record AskedBytes : Type 0 where
 -- "too few are 12": the last check
 unfoldable pub checkDesk : Checked Answer → List ℕ → Checked Answer
 unfolding andThen
-checkDesk a desk = andThen a (λ x. refuseIf (ltb (length desk) tallyLength) 12 0 (passed x))
+checkDesk a desk = andThen a (λ x. refuseIf (ltb (length desk) deskLength) 12 0 (passed x))
 
-unfoldable pub settleBytes : Checked Answer → List ℕ → List ℕ → AskedBytes
+unfoldable pub settleBytes : Checked Answer → List ℕ → ℕ → List ℕ → AskedBytes
 unfolding answerBytes answerValue
-settleBytes (passed a) buffer desk =
+settleBytes (passed a) buffer w desk =
     record {
       reply = done (answerValue a);
       buffer = overwrite (answerBytes a) buffer;
-      desk = overwrite (tallyBytes (nextTally (tallyIn desk))) desk;
+      desk = putTally w (nextTally (tallyAt w desk)) desk;
     }
-settleBytes (refused r) buffer desk = record { reply = notDone r; buffer = buffer; desk = desk }
+settleBytes (refused r) buffer w desk = record { reply = notDone r; buffer = buffer; desk = desk }
 
 -- the same question from a host that lends the desk record as bytes
-unfoldable pub askBytes : List ℕ → Question → List ℕ → List ℕ → AskedBytes
+unfoldable pub askBytes : List ℕ → Question → List ℕ → ℕ → List ℕ → AskedBytes
 unfolding settleBytes checkDesk checkedAnswer
-askBytes bytes q buffer desk = settleBytes (checkDesk (checkedAnswer bytes q buffer) desk) buffer desk
+askBytes bytes q buffer w desk = settleBytes (checkWindow w (checkDesk (checkedAnswer bytes q buffer) desk)) buffer w desk

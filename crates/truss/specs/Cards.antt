@@ -1,6 +1,7 @@
--- The cards of the worked cases.
+-- The cards of the worked cases, and what they share.
 use mathlib.Core.List.{List, [], _∷_, _++_}
 use Prim.Native.Nat.{ℕ}
+use lib.ListN.{replicate}
 use Rattle.truss.specs.Lists.{concatMap}
 use Rattle.truss.specs.Graph.{Pair, Graph, Triangle, graphOf}
 use Rattle.truss.specs.Record.{kindHead, field, headBytes, endBytes}
@@ -26,6 +27,10 @@ headOnly n = headBytes kindHead n 0 ++ endBytes
 unfoldable pub accounts : List ℕ → List ℕ
 unfolding concatMap
 accounts vs = concatMap field vs
+
+-- the tallies of a desk's 32 windows, each 7
+unfoldable pub sevens : List ℕ
+sevens = replicate 32 7
 
 -- Card A: "n = 5; links 0-1, 0-2, 1-2, 1-3, 2-3, 3-4"
 unfoldable pub pairsA : List Pair

@@ -1,16 +1,12 @@
 -- Worked cases of question G, held by computation: answers, every order of its checks, the bytes written. The limits of k stand in Figures.
 use mathlib.Core.Path.{_≡_, refl}
-use mathlib.Core.List.{[], _∷_}
-use Prim.Native.Nat.{ℕ}
+use mathlib.Core.List.{[], _∷_, _++_}
 use lib.ListN.{take, drop, replicate}
 use Rattle.truss.specs.Refusal.{passed, refuse}
 use Rattle.truss.specs.Question.{answer, ask-chain, chain}
-use Rattle.truss.specs.Call.{Reply, answerBytes, ask, askBytes, done}
-use Rattle.truss.specs.Cards.{corners, graphA, graphB, bowTie, five, nested, kite, wheel, strip, triangle, indexT}
-
--- the reply of a refused question
-abbrev turned : ℕ → Reply
-turned n = record { refusal = n; value = 0; second = 0; third = 0 }
+use Rattle.truss.specs.Call.{answerBytes, ask, askBytes, done}
+use Rattle.truss.specs.Windows.{refusedBy}
+use Rattle.truss.specs.Cards.{corners, sevens, graphA, graphB, bowTie, five, nested, kite, wheel, strip, triangle, indexT}
 
 pub record ChainCases : Type 0 where
   -- two triangles with a common link; one that has both links, on card B at 3, and at 4, where it is too weak by the side that is neither link
@@ -55,23 +51,24 @@ pub record ChainCases : Type 0 where
   no-first-link : answer nested (ask-chain 3 5 6 0 1) ≡ refuse 11 0
   no-second-link : answer nested (ask-chain 3 0 1 3 3) ≡ refuse 11 0
   -- the bytes: a count of both its bytes, then the accounts of each triangle, rising; the bytes after the answer stay. 12 for a buffer that is too short, after
-  -- 9, 10 and 11, and the tally stays
-  written : ask indexT (ask-chain 3 0 1 2 1) (replicate 9 9) 7 ≡ record { reply = done 8; buffer = 0 ∷ 1 ∷ 0 ∷ 0 ∷ 0 ∷ 1 ∷ 0 ∷ 2 ∷ 9 ∷ []; tally = 8 }
-  short : ask indexT (ask-chain 3 0 1 2 1) (replicate 7 9) 7 ≡ record { reply = turned 12; buffer = replicate 7 9; tally = 7 }
-  none-written : ask indexT (ask-chain 4 0 1 2 1) (replicate 3 9) 7 ≡ record { reply = done 2; buffer = 0 ∷ 0 ∷ 9 ∷ []; tally = 8 }
-  none-short : ask indexT (ask-chain 4 0 1 2 1) (replicate 1 9) 7 ≡ record { reply = turned 12; buffer = replicate 1 9; tally = 7 }
-  level-before-room : ask indexT (ask-chain 0 0 1 2 1) [] 7 ≡ record { reply = turned 10; buffer = []; tally = 7 }
-  account-before-room : ask indexT (ask-chain 3 0 3 0 1) [] 7 ≡ record { reply = turned 9; buffer = []; tally = 7 }
-  first-link-before-room : ask indexT (ask-chain 3 2 2 0 1) [] 7 ≡ record { reply = turned 11; buffer = []; tally = 7 }
-  link-before-room : ask indexT (ask-chain 3 0 1 2 2) [] 7 ≡ record { reply = turned 11; buffer = []; tally = 7 }
-  no-index-first : ask (drop 1 indexT) (ask-chain 0 3 0 0 0) [] 7 ≡ record { reply = turned 7; buffer = []; tally = 7 }
-  desk-moves : askBytes indexT (ask-chain 3 0 1 2 1) (replicate 8 9) (0 ∷ 0 ∷ 0 ∷ 255 ∷ 9 ∷ []) ≡ record { reply = done 8; buffer = 0 ∷ 1 ∷ 0 ∷ 0 ∷ 0 ∷ 1 ∷ 0 ∷ 2 ∷ []; desk = 0 ∷ 0 ∷ 1 ∷ 0 ∷ 9 ∷ [] }
-  desk-short : askBytes indexT (ask-chain 3 0 1 2 1) (replicate 8 9) (0 ∷ 0 ∷ 0 ∷ []) ≡ record { reply = turned 12; buffer = replicate 8 9; desk = 0 ∷ 0 ∷ 0 ∷ [] }
+  -- 9, 10 and 11, and the tallies stay; 13 ahead of 7
+  written : ask indexT (ask-chain 3 0 1 2 1) (replicate 9 9) 0 sevens ≡ record { reply = done 8; buffer = 0 ∷ 1 ∷ 0 ∷ 0 ∷ 0 ∷ 1 ∷ 0 ∷ 2 ∷ 9 ∷ []; tallies = 8 ∷ replicate 31 7 }
+  short : ask indexT (ask-chain 3 0 1 2 1) (replicate 7 9) 0 sevens ≡ record { reply = refusedBy 12; buffer = replicate 7 9; tallies = sevens }
+  none-written : ask indexT (ask-chain 4 0 1 2 1) (replicate 3 9) 0 sevens ≡ record { reply = done 2; buffer = 0 ∷ 0 ∷ 9 ∷ []; tallies = 8 ∷ replicate 31 7 }
+  none-short : ask indexT (ask-chain 4 0 1 2 1) (replicate 1 9) 0 sevens ≡ record { reply = refusedBy 12; buffer = replicate 1 9; tallies = sevens }
+  level-before-room : ask indexT (ask-chain 0 0 1 2 1) [] 0 sevens ≡ record { reply = refusedBy 10; buffer = []; tallies = sevens }
+  account-before-room : ask indexT (ask-chain 3 0 3 0 1) [] 0 sevens ≡ record { reply = refusedBy 9; buffer = []; tallies = sevens }
+  first-link-before-room : ask indexT (ask-chain 3 2 2 0 1) [] 0 sevens ≡ record { reply = refusedBy 11; buffer = []; tallies = sevens }
+  link-before-room : ask indexT (ask-chain 3 0 1 2 2) [] 0 sevens ≡ record { reply = refusedBy 11; buffer = []; tallies = sevens }
+  no-index-first : ask (drop 1 indexT) (ask-chain 0 3 0 0 0) [] 0 sevens ≡ record { reply = refusedBy 7; buffer = []; tallies = sevens }
+  desk-moves : askBytes indexT (ask-chain 3 0 1 2 1) (replicate 8 9) 31 (replicate 124 9 ++ (0 ∷ 0 ∷ 0 ∷ 255 ∷ 9 ∷ [])) ≡ record { reply = done 8; buffer = 0 ∷ 1 ∷ 0 ∷ 0 ∷ 0 ∷ 1 ∷ 0 ∷ 2 ∷ []; desk = replicate 124 9 ++ (0 ∷ 0 ∷ 1 ∷ 0 ∷ 9 ∷ []) }
+  desk-short : askBytes indexT (ask-chain 3 0 1 2 1) (replicate 8 9) 0 (replicate 127 0) ≡ record { reply = refusedBy 12; buffer = replicate 8 9; desk = replicate 127 0 }
+  window-first : ask (drop 1 indexT) (ask-chain 0 3 0 0 0) [] 32 sevens ≡ record { reply = refusedBy 13; buffer = []; tallies = sevens }
   large-accounts : answerBytes (chain (corners 1 258 1023 ∷ corners 2 258 1023 ∷ [])) ≡ 0 ∷ 2 ∷ 0 ∷ 1 ∷ 1 ∷ 2 ∷ 3 ∷ 255 ∷ 0 ∷ 2 ∷ 1 ∷ 2 ∷ 3 ∷ 255 ∷ []
   large-count : take 2 (answerBytes (chain (replicate 258 (corners 0 1 2)))) ≡ 1 ∷ 2 ∷ []
 
 pub chain-cases : ChainCases
-unfolding corners graphA graphB bowTie five nested kite wheel strip triangle indexT answer answerBytes ask askBytes
+unfolding corners sevens graphA graphB bowTie five nested kite wheel strip triangle indexT answer answerBytes ask askBytes
 chain-cases = record {
   chain-A = refl;
   chain-at-3 = refl;
@@ -112,6 +109,7 @@ chain-cases = record {
   first-link-before-room = refl;
   link-before-room = refl;
   no-index-first = refl;
+  window-first = refl;
   desk-moves = refl;
   desk-short = refl;
   large-accounts = refl;

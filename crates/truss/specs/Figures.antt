@@ -1,8 +1,8 @@
--- The figures of document 01, each as the document prints it, and the cases at either side of a limit. No case of another file depends on the limits
+-- The figures of documents 01 and 02, each as they print it, and the cases at either side of a limit. No case of another file depends on the limits
 -- of links, strength or index bytes.
 use mathlib.Core.Path.{_≡_, refl}
 use mathlib.Core.List.{[], _∷_}
-use Rattle.truss.specs.Limits.{maxAccounts, maxLinks, minStrength, maxStrength, minLevel, maxLevel, maxNamed, noGroup, maxIndexBytes, maxChainBytes, maxTally, tallyLength}
+use Rattle.truss.specs.Limits.{maxAccounts, maxLinks, minStrength, maxStrength, minLevel, maxLevel, maxNamed, noGroup, maxIndexBytes, maxChainBytes, maxTally, tallyLength, windows, deskLength}
 use Rattle.truss.specs.Refusal.{passed, refuse}
 use Rattle.truss.specs.LinksFile.{accepted, readLinks}
 use Rattle.truss.specs.Question.{answer, ask-groups-at, ask-links, ask-chain, numbers, chain}
@@ -24,6 +24,9 @@ pub record Figures : Type 0 where
   chain-bytes : maxChainBytes ≡ 6140
   tally-rests : maxTally ≡ 4_294_967_295
   tally-bytes : tallyLength ≡ 4
+  -- "The record now holds 32 tallies"; as bytes, "four to a tally"
+  windows-are : windows ≡ 32
+  desk-bytes : deskLength ≡ 128
   -- n = 1,024 is taken (1,025: Cases)
   most-accounts : readLinks (headOnly 1024) ≡ accepted 1024 []
   -- "m = 2,048 is taken, 2,049 is 3": a head alone, so the first link is missed
@@ -58,6 +61,8 @@ figures = record {
   chain-bytes = refl;
   tally-rests = refl;
   tally-bytes = refl;
+  windows-are = refl;
+  desk-bytes = refl;
   most-accounts = refl;
   most-links = refl;
   too-many-links = refl;

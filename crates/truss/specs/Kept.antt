@@ -10,7 +10,7 @@ use Rattle.truss.specs.Call.{build, read, ask, askBytes}
 pub record RefusalKeeps : Type 0 where
   pub build : (file buffer : List ℕ) → build file buffer .reply .refusal ≢ 0 → build file buffer .buffer ≡ buffer
   pub read : (bytes buffer : List ℕ) → read bytes buffer .reply .refusal ≢ 0 → read bytes buffer .buffer ≡ buffer
-  pub ask : (bytes : List ℕ) (q : Question) (buffer : List ℕ) (t : ℕ) → ask bytes q buffer t .reply .refusal ≢ 0
-      → (ask bytes q buffer t .buffer ≡ buffer) × (ask bytes q buffer t .tally ≡ t)
-  pub ask-bytes : (bytes : List ℕ) (q : Question) (buffer desk : List ℕ) → askBytes bytes q buffer desk .reply .refusal ≢ 0
-      → (askBytes bytes q buffer desk .buffer ≡ buffer) × (askBytes bytes q buffer desk .desk ≡ desk)
+  pub ask : (bytes : List ℕ) (q : Question) (buffer : List ℕ) (w : ℕ) (tallies : List ℕ) → ask bytes q buffer w tallies .reply .refusal ≢ 0
+      → (ask bytes q buffer w tallies .buffer ≡ buffer) × (ask bytes q buffer w tallies .tallies ≡ tallies)
+  pub ask-bytes : (bytes : List ℕ) (q : Question) (buffer : List ℕ) (w : ℕ) (desk : List ℕ) → askBytes bytes q buffer w desk .reply .refusal ≢ 0
+      → (askBytes bytes q buffer w desk .buffer ≡ buffer) × (askBytes bytes q buffer w desk .desk ≡ desk)

@@ -19,9 +19,11 @@ pub mod IndexFile
 pub mod Question
 pub mod Call
 pub mod Listing
--- what a refused call leaves; what question G answers
+-- what a refused call leaves; what question G answers; the window, the record as bytes, tallies over a run of questions
 pub mod Kept
 pub mod Ways
+pub mod Windows
+pub mod Run
 -- demand 3
 pub mod Stored
 pub mod Demand3
@@ -30,5 +32,6 @@ pub mod Cards
 pub mod Cases
 pub mod ChainCases
 pub mod WholeCalls
+pub mod DeskCases
 pub mod Figures
 pub mod Spelled

@@ -1,4 +1,4 @@
--- The figures of document 01, each named once in the definitions. The code has them in the crate `limits`, which is tied to these lines; CONTRIBUTING.md says which lines a limit has.
+-- The figures of documents 01 and 02, each named once in the definitions. The code has them in the crate `limits`, which is tied to these lines; CONTRIBUTING.md says which lines a limit has.
 use Prim.Native.Nat.{ℕ, _+_, _*_, _-_, _/_}
 
 -- "n is 1 to 1,024, m is 0 to 2,048"
@@ -46,3 +46,11 @@ maxTally = 4_294_967_295
 
 abbrev pub tallyLength : ℕ
 tallyLength = 4
+
+-- "The record now holds 32 tallies, numbered 0 to 31" (document 02, request 3)
+abbrev pub windows : ℕ
+windows = 32
+
+-- the record as bytes
+abbrev pub deskLength : ℕ
+deskLength = windows * tallyLength

@@ -1,12 +1,12 @@
--- Whole calls, held by computation: replies, places, every lent byte, the tally, and the text of both programs.
+-- Whole calls, held by computation: replies, places, every lent byte, the tallies, and the text of both programs.
 use mathlib.Core.Path.{_≡_, refl}
 use mathlib.Core.List.{[], _∷_, _++_}
 use lib.ListN.{replicate}
 use Rattle.truss.specs.LinksFile.{writeLinks}
 use Rattle.truss.specs.Question.{ask-strength, ask-joined, ask-groups-at, ask-strongest, ask-all, ask-links}
-use Rattle.truss.specs.Call.{build, read, ask, askBytes, done}
+use Rattle.truss.specs.Call.{build, read, ask, done}
 use Rattle.truss.specs.Listing.{decimal, rowText, lister, builder}
-use Rattle.truss.specs.Cards.{pair, file, headOnly, accounts, pairsA, indexA, indexB, indexT}
+use Rattle.truss.specs.Cards.{pair, file, headOnly, accounts, sevens, pairsA, indexA, indexB, indexT}
 
 pub record WholeCalls : Type 0 where
   -- build: the index over the front of the buffer, the bytes after it stay; 12 only for a buffer that is too short, after 1 to 6
@@ -26,40 +26,26 @@ pub record WholeCalls : Type 0 where
   read-short : read (headOnly 1) (9 ∷ []) ≡ record { reply = record { refusal = 12; value = 0; second = 0; third = 0 }; buffer = 9 ∷ [] }
   read-refused : read (headOnly 1 ++ (5 ∷ [])) (9 ∷ []) ≡ record { reply = record { refusal = 7; value = 0; second = 0; third = 0 }; buffer = 9 ∷ [] }
   read-links-file : read (writeLinks 5 pairsA) [] ≡ record { reply = record { refusal = 7; value = 0; second = 0; third = 0 }; buffer = [] }
-  -- a question: the reply, the answer buffer, the tally
-  counted : ask indexT (ask-strength 1 0) (9 ∷ []) 7 ≡ record { reply = done 3; buffer = 9 ∷ []; tally = 8 }
-  at-rest : ask indexT (ask-strength 1 0) [] 4_294_967_295 ≡ record { reply = done 3; buffer = []; tally = 4_294_967_295 }
-  last-counted : ask indexT (ask-strength 1 0) [] 4_294_967_294 ≡ record { reply = done 3; buffer = []; tally = 4_294_967_295 }
-  refused-not-counted : ask indexT (ask-strength 0 3) (9 ∷ []) 7
-      ≡ record { reply = record { refusal = 9; value = 0; second = 0; third = 0 }; buffer = 9 ∷ []; tally = 7 }
-  no-index-first : ask (headOnly 1 ++ (5 ∷ [])) (ask-all []) [] 7 ≡ record { reply = record { refusal = 7; value = 0; second = 0; third = 0 }; buffer = []; tally = 7 }
-  list-written : ask indexT (ask-all (accounts (2 ∷ []))) (9 ∷ 9 ∷ 9 ∷ 9 ∷ 9 ∷ []) 7 ≡ record { reply = done 4; buffer = 0 ∷ 1 ∷ 0 ∷ 0 ∷ 9 ∷ []; tally = 8 }
-  list-exact : ask indexT (ask-strongest (accounts (2 ∷ []))) (9 ∷ 9 ∷ 9 ∷ 9 ∷ []) 7 ≡ record { reply = done 4; buffer = 0 ∷ 1 ∷ 0 ∷ 0 ∷ []; tally = 8 }
-  list-short : ask indexT (ask-all (accounts (2 ∷ []))) (9 ∷ 9 ∷ 9 ∷ []) 7
-      ≡ record { reply = record { refusal = 12; value = 0; second = 0; third = 0 }; buffer = 9 ∷ 9 ∷ 9 ∷ []; tally = 7 }
-  empty-list : ask indexT (ask-links 4 0 1) (9 ∷ 9 ∷ 9 ∷ []) 7 ≡ record { reply = done 2; buffer = 0 ∷ 0 ∷ 9 ∷ []; tally = 8 }
-  level-before-room : ask indexT (ask-links 2 0 1) [] 7 ≡ record { reply = record { refusal = 10; value = 0; second = 0; third = 0 }; buffer = []; tally = 7 }
-  C-level-before-room : ask indexT (ask-groups-at 2 (accounts (0 ∷ []))) [] 7 ≡ record { reply = record { refusal = 10; value = 0; second = 0; third = 0 }; buffer = []; tally = 7 }
-  count-before-room : ask indexT (ask-strongest []) (9 ∷ []) 7 ≡ record { reply = record { refusal = 8; value = 0; second = 0; third = 0 }; buffer = 9 ∷ []; tally = 7 }
-  account-before-room : ask indexT (ask-all (accounts (3 ∷ []))) [] 7 ≡ record { reply = record { refusal = 9; value = 0; second = 0; third = 0 }; buffer = []; tally = 7 }
-  link-before-room : ask indexT (ask-links 3 0 0) [] 7 ≡ record { reply = record { refusal = 11; value = 0; second = 0; third = 0 }; buffer = []; tally = 7 }
-  B-3-at-4 : ask indexB (ask-groups-at 4 (accounts (3 ∷ []))) (9 ∷ 9 ∷ 9 ∷ 9 ∷ 9 ∷ 9 ∷ 9 ∷ []) 0
-      ≡ record { reply = done 6; buffer = 0 ∷ 2 ∷ 0 ∷ 0 ∷ 0 ∷ 1 ∷ 9 ∷ []; tally = 1 }
-  B-2-3-and-3-4 : ask indexB (ask-joined 3 2 4 3) [] 0 ≡ record { reply = done 3; buffer = []; tally = 1 }
-  -- the desk as bytes: high byte first, bytes beyond stay, too few are 12 and checked last
-  desk-bytes : askBytes indexT (ask-strength 0 1) [] (0 ∷ 0 ∷ 0 ∷ 255 ∷ 9 ∷ []) ≡ record { reply = done 3; buffer = []; desk = 0 ∷ 0 ∷ 1 ∷ 0 ∷ 9 ∷ [] }
-  desk-at-rest : askBytes indexT (ask-strength 0 1) [] (255 ∷ 255 ∷ 255 ∷ 255 ∷ []) ≡ record { reply = done 3; buffer = []; desk = 255 ∷ 255 ∷ 255 ∷ 255 ∷ [] }
-  desk-carry : askBytes indexT (ask-strength 0 1) [] (1 ∷ 255 ∷ 255 ∷ 255 ∷ []) ≡ record { reply = done 3; buffer = []; desk = 2 ∷ 0 ∷ 0 ∷ 0 ∷ [] }
-  desk-list : askBytes indexT (ask-all (accounts (2 ∷ []))) (9 ∷ 9 ∷ 9 ∷ 9 ∷ 9 ∷ []) (0 ∷ 0 ∷ 0 ∷ 7 ∷ [])
-      ≡ record { reply = done 4; buffer = 0 ∷ 1 ∷ 0 ∷ 0 ∷ 9 ∷ []; desk = 0 ∷ 0 ∷ 0 ∷ 8 ∷ [] }
-  desk-list-short : askBytes indexT (ask-all (accounts (2 ∷ []))) (9 ∷ 9 ∷ 9 ∷ []) (0 ∷ 0 ∷ 0 ∷ 7 ∷ [])
-      ≡ record { reply = record { refusal = 12; value = 0; second = 0; third = 0 }; buffer = 9 ∷ 9 ∷ 9 ∷ []; desk = 0 ∷ 0 ∷ 0 ∷ 7 ∷ [] }
-  desk-refused : askBytes indexT (ask-strength 0 0) [] (0 ∷ 0 ∷ 0 ∷ 7 ∷ []) ≡ record { reply = record { refusal = 11; value = 0; second = 0; third = 0 }; buffer = []; desk = 0 ∷ 0 ∷ 0 ∷ 7 ∷ [] }
-  desk-short : askBytes indexT (ask-all (accounts (2 ∷ []))) (9 ∷ 9 ∷ 9 ∷ 9 ∷ []) (0 ∷ 0 ∷ 0 ∷ [])
-      ≡ record { reply = record { refusal = 12; value = 0; second = 0; third = 0 }; buffer = 9 ∷ 9 ∷ 9 ∷ 9 ∷ []; desk = 0 ∷ 0 ∷ 0 ∷ [] }
-  desk-last : askBytes indexT (ask-strength 0 3) [] [] ≡ record { reply = record { refusal = 9; value = 0; second = 0; third = 0 }; buffer = []; desk = [] }
-  desk-after-link : askBytes indexT (ask-strength 0 0) [] (7 ∷ []) ≡ record { reply = record { refusal = 11; value = 0; second = 0; third = 0 }; buffer = []; desk = 7 ∷ [] }
-  desk-after-index : askBytes (headOnly 1 ++ (5 ∷ [])) (ask-all []) [] [] ≡ record { reply = record { refusal = 7; value = 0; second = 0; third = 0 }; buffer = []; desk = [] }
+  -- a question: the reply, the answer buffer, the tallies (more of them: DeskCases)
+  counted : ask indexT (ask-strength 1 0) (9 ∷ []) 0 sevens ≡ record { reply = done 3; buffer = 9 ∷ []; tallies = 8 ∷ replicate 31 7 }
+  at-rest : ask indexT (ask-strength 1 0) [] 0 (4_294_967_295 ∷ replicate 31 7) ≡ record { reply = done 3; buffer = []; tallies = 4_294_967_295 ∷ replicate 31 7 }
+  last-counted : ask indexT (ask-strength 1 0) [] 0 (4_294_967_294 ∷ replicate 31 7) ≡ record { reply = done 3; buffer = []; tallies = 4_294_967_295 ∷ replicate 31 7 }
+  refused-not-counted : ask indexT (ask-strength 0 3) (9 ∷ []) 0 sevens
+      ≡ record { reply = record { refusal = 9; value = 0; second = 0; third = 0 }; buffer = 9 ∷ []; tallies = sevens }
+  no-index-first : ask (headOnly 1 ++ (5 ∷ [])) (ask-all []) [] 0 sevens ≡ record { reply = record { refusal = 7; value = 0; second = 0; third = 0 }; buffer = []; tallies = sevens }
+  list-written : ask indexT (ask-all (accounts (2 ∷ []))) (9 ∷ 9 ∷ 9 ∷ 9 ∷ 9 ∷ []) 0 sevens ≡ record { reply = done 4; buffer = 0 ∷ 1 ∷ 0 ∷ 0 ∷ 9 ∷ []; tallies = 8 ∷ replicate 31 7 }
+  list-exact : ask indexT (ask-strongest (accounts (2 ∷ []))) (9 ∷ 9 ∷ 9 ∷ 9 ∷ []) 0 sevens ≡ record { reply = done 4; buffer = 0 ∷ 1 ∷ 0 ∷ 0 ∷ []; tallies = 8 ∷ replicate 31 7 }
+  list-short : ask indexT (ask-all (accounts (2 ∷ []))) (9 ∷ 9 ∷ 9 ∷ []) 0 sevens
+      ≡ record { reply = record { refusal = 12; value = 0; second = 0; third = 0 }; buffer = 9 ∷ 9 ∷ 9 ∷ []; tallies = sevens }
+  empty-list : ask indexT (ask-links 4 0 1) (9 ∷ 9 ∷ 9 ∷ []) 0 sevens ≡ record { reply = done 2; buffer = 0 ∷ 0 ∷ 9 ∷ []; tallies = 8 ∷ replicate 31 7 }
+  level-before-room : ask indexT (ask-links 2 0 1) [] 0 sevens ≡ record { reply = record { refusal = 10; value = 0; second = 0; third = 0 }; buffer = []; tallies = sevens }
+  C-level-before-room : ask indexT (ask-groups-at 2 (accounts (0 ∷ []))) [] 0 sevens ≡ record { reply = record { refusal = 10; value = 0; second = 0; third = 0 }; buffer = []; tallies = sevens }
+  count-before-room : ask indexT (ask-strongest []) (9 ∷ []) 0 sevens ≡ record { reply = record { refusal = 8; value = 0; second = 0; third = 0 }; buffer = 9 ∷ []; tallies = sevens }
+  account-before-room : ask indexT (ask-all (accounts (3 ∷ []))) [] 0 sevens ≡ record { reply = record { refusal = 9; value = 0; second = 0; third = 0 }; buffer = []; tallies = sevens }
+  link-before-room : ask indexT (ask-links 3 0 0) [] 0 sevens ≡ record { reply = record { refusal = 11; value = 0; second = 0; third = 0 }; buffer = []; tallies = sevens }
+  B-3-at-4 : ask indexB (ask-groups-at 4 (accounts (3 ∷ []))) (9 ∷ 9 ∷ 9 ∷ 9 ∷ 9 ∷ 9 ∷ 9 ∷ []) 0 sevens
+      ≡ record { reply = done 6; buffer = 0 ∷ 2 ∷ 0 ∷ 0 ∷ 0 ∷ 1 ∷ 9 ∷ []; tallies = 8 ∷ replicate 31 7 }
+  B-2-3-and-3-4 : ask indexB (ask-joined 3 2 4 3) [] 0 sevens ≡ record { reply = done 3; buffer = []; tallies = 8 ∷ replicate 31 7 }
   -- the programs' text: `refused 7`, `groups 0`, `refused 5 5`, `refused 4 10`; numbers of one to ten digits
   lister-refused : lister [] ≡ 0x72 ∷ 0x65 ∷ 0x66 ∷ 0x75 ∷ 0x73 ∷ 0x65 ∷ 0x64 ∷ 0x20 ∷ 0x37 ∷ 0x0A ∷ []
   lister-no-groups : lister (headOnly 1) ≡ 0x67 ∷ 0x72 ∷ 0x6F ∷ 0x75 ∷ 0x70 ∷ 0x73 ∷ 0x20 ∷ 0x30 ∷ 0x0A ∷ []
@@ -75,7 +61,7 @@ pub record WholeCalls : Type 0 where
       ≡ 0x32 ∷ 0x30 ∷ 0x35 ∷ 0x20 ∷ 0x36 ∷ 0x34 ∷ 0x20 ∷ 0x32 ∷ 0x30 ∷ 0x36 ∷ 0x20 ∷ 0x32 ∷ 0x30 ∷ 0x31 ∷ 0x36 ∷ 0x20 ∷ 0x36 ∷ 0x33 ∷ 0x20 ∷ 0x31 ∷ 0x30 ∷ 0x32 ∷ 0x32 ∷ 0x20 ∷ 0x31 ∷ 0x30 ∷ 0x32 ∷ 0x33 ∷ 0x0A ∷ []
 
 pub whole-calls : WholeCalls
-unfolding indexT indexB indexA pairsA pair file headOnly accounts writeLinks build read ask askBytes rowText lister builder
+unfolding sevens indexT indexB indexA pairsA pair file headOnly accounts writeLinks build read ask rowText lister builder
 whole-calls = record {
   build-tail = refl;
   build-exact = refl;
@@ -104,16 +90,6 @@ whole-calls = record {
   link-before-room = refl;
   B-3-at-4 = refl;
   B-2-3-and-3-4 = refl;
-  desk-bytes = refl;
-  desk-at-rest = refl;
-  desk-carry = refl;
-  desk-list = refl;
-  desk-list-short = refl;
-  desk-refused = refl;
-  desk-short = refl;
-  desk-last = refl;
-  desk-after-link = refl;
-  desk-after-index = refl;
   lister-refused = refl;
   lister-no-groups = refl;
   builder-A = refl;

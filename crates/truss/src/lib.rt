@@ -2,11 +2,12 @@
 ghost use Rattle.truss.specs.Cases.{Cases, RuleCases, WindowCases, FieldCases};
 ghost use Rattle.truss.specs.ChainCases.{ChainCases};
 ghost use Rattle.truss.specs.WholeCalls.{WholeCalls};
+ghost use Rattle.truss.specs.DeskCases.{DeskCases};
 ghost use Rattle.truss.specs.Figures.{Figures};
 ghost use Rattle.truss.specs.Spelled.{Spelled};
 
 pub fn definitions()
-    ensures { λ _. ⌜ Cases × RuleCases × WindowCases × FieldCases × ChainCases × WholeCalls × Figures × Spelled ⌝ }
+    ensures { λ _. ⌜ Cases × RuleCases × WindowCases × FieldCases × ChainCases × WholeCalls × DeskCases × Figures × Spelled ⌝ }
 {
     return;
 }

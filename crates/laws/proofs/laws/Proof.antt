@@ -1,12 +1,15 @@
--- `laws` promises demand 3, that a refused call leaves all lent memory as it was, and that question G answers with the first of the shortest chains.
+-- `laws` promises demand 3, that a refused call leaves all lent memory as it was, that question G answers with the first of the shortest chains, what the window and
+-- the record as bytes have to do with a question, and what a run of questions leaves in each window's tally.
 use Rattle.laws.proofs.laws.Statement.{statement}
 use Rattle.laws.proofs.laws.Tie as tie
 use Rattle.laws.proofs.Demand3.{demand3, only-short-memory}
 use Rattle.laws.proofs.Refused.{refusal-keeps}
 use Rattle.laws.proofs.ShortestRoom.{ways}
+use Rattle.laws.proofs.Windows.{window-rule, record-rule}
+use Rattle.laws.proofs.Run.{run-tallies, run-record}
 
 returns : tie.Need-returns
-returns c = (demand3, only-short-memory, refusal-keeps, ways)
+returns c = (demand3, only-short-memory, refusal-keeps, ways, window-rule, record-rule, run-tallies, run-record)
 
 pub laws-spec : {M : Type 1} → statement M
 laws-spec = tie.close (tie.spec returns)
