@@ -1,72 +1,108 @@
 -- A question from a host that lends the desk record as bytes. Assumes nothing.
 use mathlib.Core.Path.{_≡_, refl, sym, ap, _∙_}
-use mathlib.Core.Logic.{_≢_}
+use mathlib.Core.Logic.{_⊎_, inl, inr, _≢_}
 use mathlib.Core.Bool.{Bool, true, false}
 use mathlib.Core.List.{List, [], _∷_, _++_}
-use Prim.Native.Nat.{ℕ, _≤_, _<_}
+use Prim.Native.Nat.{ℕ, _+_, _*_, _-_, _≤_, _<_}
 use native.Mathlib.Omega.{arith}
 use lib.Dec.{ltb}
-use lib.ListN.{length}
-use borrow.Author.Tests.{lt-ltb, le-ltb}
-use Rattle.truss.specs.Limits.{tallyLength}
+use lib.ListN.{length, getD, take, drop, set, length-set, length-drop}
+use lib.Seq.{getD-set-same, getD-set-other, take-all, drop-drop}
+use Rattle.truss.specs.Limits.{windows, tallyLength, deskLength}
 use Rattle.truss.specs.Graph.{Graph}
 use Rattle.truss.specs.Refusal.{Checked, passed, refused, refuse, refuseIf, andThen}
 use Rattle.truss.specs.IndexFile.{readIndex}
 use Rattle.truss.specs.Question.{Question, Answer, answer}
-use Rattle.truss.specs.Call.{Asked, AskedBytes, withRoom, overwrite, answerBytes, checkedAnswer, settle, ask, tallyBytes, tallyIn, checkDesk, settleBytes, askBytes}
+use Rattle.truss.specs.Call.{Written, Asked, AskedBytes, withRoom, answerBytes, checkedAnswer, checkWindow, nextTally, settle, ask, tallyBytes, tallyIn, tallyAt, putTally, settleBytes, askBytes}
+use Rattle.laws.proofs.Numbers.{same-or-not}
+use Rattle.laws.proofs.Run.{NotZero, Windowed, windowed, checked-not-zero}
+use Rattle.laws.proofs.Windows.{long-enough, too-short, window-first}
 use Rattle.index.specs.declared.Reply.{Reply as CReply}
-use Rattle.index.specs.Build.{replyIn, Replies, reply-same}
-use Rattle.wire.specs.Writing.{written, written-start}
+use Rattle.index.specs.Build.{replyIn, replied, Replies, reply-same}
+use Rattle.wire.specs.Writing.{written, written-part, back}
+use Rattle.question.specs.Replies.{given}
+use Rattle.question.specs.Answer.{FromGives}
 use Rattle.desk.specs.declared.Desk.{Desk}
-use Rattle.question.specs.Replies.{NotZero, asked, AnswerGives, checked-not-zero}
-use Rattle.desk.specs.Desk.{AskGives}
+use Rattle.desk.specs.Desk.{AskGives, from-not-zero}
 
 abbrev pub askedBytes : CReply → List ℕ → List ℕ → AskedBytes
 askedBytes r out desk = record { reply = replyIn r; buffer = out; desk = desk }
 
 -- THE PROMISE of a question with a desk record of bytes: reply and every byte of buffer and record are what the definition gives
-abbrev pub AskBytesGives : List ℕ → Question → List ℕ → List ℕ → CReply → List ℕ → List ℕ → Type 0
-AskBytesGives b q out desk r out′ desk′ = askedBytes r out′ desk′ ≡ askBytes b q out desk
+abbrev pub AskBytesGives : List ℕ → Question → List ℕ → ℕ → List ℕ → CReply → List ℕ → List ℕ → Type 0
+AskBytesGives b q out w desk r out′ desk′ = askedBytes r out′ desk′ ≡ askBytes b q out w desk
+
+-- ---- the tallies of a record
+
+-- those of the windows below i are the ones of their four bytes
+pub record TalliesTo (desk : List ℕ) (i : ℕ) (ts : List ℕ) : Type 0 where
+  pub count : length ts ≡ windows
+  pub each : (w : ℕ) → w < i → getD ts w 0 ≡ tallyAt w desk
+
+abbrev pub TalliesOf : List ℕ → List ℕ → Type 0
+TalliesOf desk ts = TalliesTo desk windows ts
+
+module _ (desk : List ℕ) where
+  pub no-tallies : (ts : List ℕ) → length ts ≡ windows → TalliesTo desk 0 ts
+  no-tallies ts q = record { count = q; each = λ w l. absurd (omega (arith, l)) }
+
+  -- window i's is read from what stands at its place on
+  pub tallies-next : {i : ℕ} {ts : List ℕ} (t : ℕ) → TalliesTo desk i ts → i < windows → i * tallyLength ≤ length desk → t ≡ tallyIn (take (length desk - i * tallyLength) (drop (i * tallyLength) desk))
+      → TalliesTo desk (i + 1) (set ts i t)
+  tallies-next {i} {ts} t T l room q = record { count = length-set ts i t ∙ T .count; each = λ w h. go w h (same-or-not w i) }
+    where
+      go : (w : ℕ) → w < i + 1 → (w ≡ i) ⊎ (w ≢ i) → getD (set ts i t) w 0 ≡ tallyAt w desk
+      go w h (inl e) = rw e (getD-set-same ts i t 0 (omega (arith, l, T .count)) ∙ q ∙ ap tallyIn (take-all (length desk - i * 4) (drop (i * 4) desk) (simp length-drop (omega arith))))
+      go w h (inr n) = getD-set-other ts i w t 0 n ∙ T .each w (omega (arith, h, n))
+
+-- the bytes of a tally, written at the start of the part that begins at its place
+pub tally-put : (desk : List ℕ) (w t : ℕ) {rec ys : List ℕ} → w * tallyLength ≤ length desk → rec ≡ tallyBytes t → ys ≡ written (take (length desk - w * tallyLength) (drop (w * tallyLength) desk)) 0 rec
+    → back desk (w * tallyLength) ys ≡ putTally w t desk
+unfolding written
+tally-put desk w t {rec} {ys} room e q =
+    rw (q, e) (written-part desk (w * 4) (length desk - w * 4) (tallyBytes t) (omega arith) ∙ ap (λ (x : List ℕ). take (w * 4) desk ++ (tallyBytes t ++ x)) (sym (drop-drop 4 (w * 4) desk)))
 
 -- ---- a record that is long enough
 
-long-enough : (x : Checked Answer) (desk : List ℕ) → tallyLength ≤ length desk → checkDesk x desk ≡ x
-unfolding checkDesk andThen
-long-enough (passed a) desk l = rw (le-ltb (length desk) tallyLength l) refl
-long-enough (refused r) desk l = refl
-
-settled-bytes : (x : Checked Answer) (out desk : List ℕ) → NotZero x → {r : CReply} {out′ : List ℕ} {t : ℕ} → _≡_ {A = Asked} (record { reply = replyIn r; buffer = out′; tally = t }) (settle x out (tallyIn desk))
-    → (r .refusal ≢ 0 → askedBytes r out′ desk ≡ settleBytes x out desk)
-    × ((desk′ : List ℕ) → r .refusal ≡ 0 → desk′ ≡ overwrite (tallyBytes t) desk → askedBytes r out′ desk′ ≡ settleBytes x out desk)
-unfolding settle settleBytes NotZero
-settled-bytes (passed a) out desk n {r} {out′} {t} q =
+-- from what the desk that was read from the record gives; the window's tally is all that is written
+settled-bytes : (x : Checked Answer) (out : List ℕ) (w : ℕ) (desk ts : List ℕ) → Windowed w x → TalliesOf desk ts → {r : CReply} {out′ ts′ : List ℕ}
+    → _≡_ {A = Asked} (record { reply = replyIn r; buffer = out′; tallies = ts′ }) (settle x out w ts)
+    → (r .refusal ≢ 0 → askedBytes r out′ desk ≡ settleBytes x out w desk)
+    × (r .refusal ≡ 0 → (w < windows) × ((desk′ : List ℕ) → desk′ ≡ putTally w (getD ts′ w 0) desk → askedBytes r out′ desk′ ≡ settleBytes x out w desk))
+unfolding settle settleBytes Windowed
+settled-bytes (passed a) out w desk ts n T {r} {out′} {ts′} q =
     let z : r .refusal ≡ 0 = ap (λ (y : Asked). y .reply .refusal) q in
     let e = ap (λ (y : Asked). y .reply) q in
     let f = ap (λ (y : Asked). y .buffer) q in
-    let g = ap (λ (y : Asked). overwrite (tallyBytes (y .tally)) desk) q in
-    ((λ nz. absurd (nz z)), (λ desk′ _ u. let w = u ∙ g in λ i. record { reply = e i; buffer = f i; desk = w i }))
-settled-bytes (refused x) out desk n {r} {out′} q =
+    let t : getD ts′ w 0 ≡ nextTally (tallyAt w desk) =
+    ap (λ (y : Asked). getD (y .tallies) w 0) q ∙ getD-set-same ts w (nextTally (getD ts w 0)) 0 (omega (arith, n, T .count)) ∙ ap nextTally (T .each w n) in
+    ((λ nz. absurd (nz z)), (λ _. (n, (λ desk′ u. let v = u ∙ ap (λ (k : ℕ). putTally w k desk) t in λ i. record { reply = e i; buffer = f i; desk = v i }))))
+settled-bytes (refused x) out w desk ts n T {r} {out′} q =
     let z : r .refusal ≡ x .number = ap (λ (y : Asked). y .reply .refusal) q in
     let e = ap (λ (y : Asked). y .reply) q in
     let f = ap (λ (y : Asked). y .buffer) q in
-    ((λ _. λ i. record { reply = e i; buffer = f i; desk = desk }), (λ desk′ w _. absurd (omega (arith, w, z, n))))
+    ((λ _. λ i. record { reply = e i; buffer = f i; desk = desk }), (λ y. absurd (omega (arith, y, z, n))))
 
--- from what the desk that was read from the record gives
-module _ (b : List ℕ) (q : Question) (out desk : List ℕ) (l : tallyLength ≤ length desk) {d e : Desk} {r : CReply} {out′ : List ℕ} (t : d .tally ≡ tallyIn desk) (A : AskGives d b q out r out′ e) where
-  from-record : _≡_ {A = Asked} (record { reply = replyIn r; buffer = out′; tally = e .tally }) (settle (checkedAnswer b q out) out (tallyIn desk))
+module _ (b : List ℕ) (q : Question) (out : List ℕ) (w : ℕ) (desk : List ℕ) (l : deskLength ≤ length desk) {d e : Desk} {r : CReply} {out′ : List ℕ} (T : TalliesOf desk (d .tallies)) (A : AskGives d b q out w r out′ e) where
+  asked-here : (r .refusal ≢ 0 → askedBytes r out′ desk ≡ settleBytes (checkWindow w (checkedAnswer b q out)) out w desk)
+      × (r .refusal ≡ 0 → (w < windows) × ((desk′ : List ℕ) → desk′ ≡ putTally w (getD (e .tallies) w 0) desk → askedBytes r out′ desk′ ≡ settleBytes (checkWindow w (checkedAnswer b q out)) out w desk))
   unfolding ask
-  from-record = A ∙ ap (settle (checkedAnswer b q out) out) t
+  asked-here = settled-bytes (checkWindow w (checkedAnswer b q out)) out w desk (d .tallies) (windowed w (checkedAnswer b q out) (checked-not-zero b q out)) T A
 
-  to-record : settleBytes (checkedAnswer b q out) out desk ≡ askBytes b q out desk
+  to-record : settleBytes (checkWindow w (checkedAnswer b q out)) out w desk ≡ askBytes b q out w desk
   unfolding askBytes
-  to-record = ap (λ (x : Checked Answer). settleBytes x out desk) (sym (long-enough (checkedAnswer b q out) desk l))
+  to-record = ap (λ (x : Checked Answer). settleBytes (checkWindow w x) out w desk) (sym (long-enough (checkedAnswer b q out) desk l))
 
-  pub desk-stays : r .refusal ≢ 0 → AskBytesGives b q out desk r out′ desk
-  desk-stays n = settled-bytes (checkedAnswer b q out) out desk (checked-not-zero b q out) from-record .0 n ∙ to-record
+  pub desk-stays : r .refusal ≢ 0 → AskBytesGives b q out w desk r out′ desk
+  desk-stays n = asked-here .0 n ∙ to-record
 
-  -- the tally after it was written over the record's front
-  pub desk-moves : {desk′ : List ℕ} → r .refusal ≡ 0 → desk′ ≡ written desk 0 (tallyBytes (e .tally)) → AskBytesGives b q out desk r out′ desk′
-  desk-moves {desk′} z u = settled-bytes (checkedAnswer b q out) out desk (checked-not-zero b q out) from-record .1 desk′ z (u ∙ written-start desk (tallyBytes (e .tally))) ∙ to-record
+  -- what is answered was asked by a window
+  pub window-below : r .refusal ≡ 0 → w < windows
+  window-below z = asked-here .1 z .0
+
+  -- the window's tally was put in its place
+  pub desk-moves : {desk′ : List ℕ} → r .refusal ≡ 0 → desk′ ≡ putTally w (getD (e .tallies) w 0) desk → AskBytesGives b q out w desk r out′ desk′
+  desk-moves {desk′} z u = asked-here .1 z .1 desk′ u ∙ to-record
 
 -- ---- one that is too short: 12, if nothing else is met; so an empty buffer tells as much
 
@@ -90,44 +126,37 @@ short-same b q out = go (readIndex b)
     go (passed G) = no-room-12 (answer G q) (λ a. ltb (length out) (length (answerBytes a))) (λ a. ltb 0 (length (answerBytes a)))
     go (refused r) = refl
 
-too-short : (x : Checked Answer) (desk : List ℕ) → length desk < tallyLength → checkDesk x desk ≡ andThen x (λ _. refuse 12 0)
-unfolding checkDesk andThen
-too-short (passed a) desk l = rw (lt-ltb (length desk) tallyLength l) refl
-too-short (refused r) desk l = refl
-
-refused-before : (x : Checked Answer) → NotZero x → {r : CReply} (out out′ desk : List ℕ) → asked r out′ 0 ≡ settle x [] 0
-    → (r .refusal ≢ 0 → askedBytes r out desk ≡ settleBytes (andThen x (λ _. refuse 12 0)) out desk)
-    × ((r′ : CReply) → r .refusal ≡ 0 → Replies r′ 12 0 → askedBytes r′ out desk ≡ settleBytes (andThen x (λ _. refuse 12 0)) out desk)
-unfolding settle settleBytes NotZero andThen
-refused-before (passed a) n {r} out out′ desk q =
-    let z : r .refusal ≡ 0 = ap (λ (y : Asked). y .reply .refusal) q in
+refused-before : (x : Checked Answer) → NotZero x → {r : CReply} (out out′ : List ℕ) (w : ℕ) (desk : List ℕ) → replied r out′ ≡ given x []
+    → (r .refusal ≢ 0 → askedBytes r out desk ≡ settleBytes (andThen x (λ _. refuse 12 0)) out w desk)
+    × ((r′ : CReply) → r .refusal ≡ 0 → Replies r′ 12 0 → askedBytes r′ out desk ≡ settleBytes (andThen x (λ _. refuse 12 0)) out w desk)
+unfolding given settleBytes NotZero andThen
+refused-before (passed a) n {r} out out′ w desk q =
+    let z : r .refusal ≡ 0 = ap (λ (y : Written). y .reply .refusal) q in
     ((λ nz. absurd (nz z)), (λ r′ _ R. let v = reply-same R in λ i. record { reply = v i; buffer = out; desk = desk }))
-refused-before (refused x) n {r} out out′ desk q =
-    let z : r .refusal ≡ x .number = ap (λ (y : Asked). y .reply .refusal) q in
-    let e = ap (λ (y : Asked). y .reply) q in
-    ((λ _. λ i. record { reply = e i; buffer = out; desk = desk }), (λ r′ w R. absurd (omega (arith, w, z, n))))
+refused-before (refused x) n {r} out out′ w desk q =
+    let z : r .refusal ≡ x .number = ap (λ (y : Written). y .reply .refusal) q in
+    let e = ap (λ (y : Written). y .reply) q in
+    ((λ _. λ i. record { reply = e i; buffer = out; desk = desk }), (λ r′ y R. absurd (omega (arith, y, z, n))))
 
-module _ (b : List ℕ) (q : Question) (out desk : List ℕ) (l : length desk < tallyLength) {r : CReply} {out′ : List ℕ} (A : AnswerGives b q [] r out′) where
-  short-is : askBytes b q out desk ≡ settleBytes (andThen (checkedAnswer b q []) (λ _. refuse 12 0)) out desk
+module _ (b : List ℕ) (q : Question) (out : List ℕ) (w : ℕ) (desk : List ℕ) (l : length desk < deskLength) {r : CReply} {out′ : List ℕ} (A : FromGives b q [] w r out′) where
+  short-is : askBytes b q out w desk ≡ settleBytes (andThen (checkWindow w (checkedAnswer b q [])) (λ _. refuse 12 0)) out w desk
   unfolding askBytes
-  short-is = ap (λ (x : Checked Answer). settleBytes x out desk) (too-short (checkedAnswer b q out) desk l ∙ short-same b q out)
+  short-is = ap (λ (x : Checked Answer). settleBytes x out w desk) (ap (checkWindow w) (too-short (checkedAnswer b q out) desk l ∙ short-same b q out) ∙ window-first w (checkedAnswer b q []))
 
-  pub short-refused : r .refusal ≢ 0 → AskBytesGives b q out desk r out desk
-  unfolding ask
-  short-refused n = refused-before (checkedAnswer b q []) (checked-not-zero b q []) out out′ desk (A 0) .0 n ∙ sym short-is
+  pub short-refused : r .refusal ≢ 0 → AskBytesGives b q out w desk r out desk
+  short-refused n = refused-before (checkWindow w (checkedAnswer b q [])) (from-not-zero b q [] w) out out′ w desk A .0 n ∙ sym short-is
 
-  pub short-12 : {r′ : CReply} → r .refusal ≡ 0 → Replies r′ 12 0 → AskBytesGives b q out desk r′ out desk
-  unfolding ask
-  short-12 {r′} z R = refused-before (checkedAnswer b q []) (checked-not-zero b q []) out out′ desk (A 0) .1 r′ z R ∙ sym short-is
+  pub short-12 : {r′ : CReply} → r .refusal ≡ 0 → Replies r′ 12 0 → AskBytesGives b q out w desk r′ out desk
+  short-12 {r′} z R = refused-before (checkWindow w (checkedAnswer b q [])) (from-not-zero b q [] w) out out′ w desk A .1 r′ z R ∙ sym short-is
 
 -- what a record that is too short gives, whatever it holds
-abbrev pub ShortGives : List ℕ → Question → List ℕ → CReply → List ℕ → Type 0
-ShortGives b q out r out′ = (desk : List ℕ) → length desk < tallyLength → AskBytesGives b q out desk r out′ desk
+abbrev pub ShortGives : List ℕ → Question → List ℕ → ℕ → CReply → List ℕ → Type 0
+ShortGives b q out w r out′ = (desk : List ℕ) → length desk < deskLength → AskBytesGives b q out w desk r out′ desk
 
 -- an empty buffer comes back empty
-pub nothing-back : (b : List ℕ) (q : Question) (desk : List ℕ) {r : CReply} (ys : List ℕ) {desk′ : List ℕ} → length ys ≡ 0 → AskBytesGives b q [] desk r ys desk′ → AskBytesGives b q [] desk r [] desk′
-nothing-back b q desk [] z A = A
-nothing-back b q desk (y ∷ ys) z A = absurd (omega arith)
+pub nothing-back : (b : List ℕ) (q : Question) (w : ℕ) (desk : List ℕ) {r : CReply} (ys : List ℕ) {desk′ : List ℕ} → length ys ≡ 0 → AskBytesGives b q [] w desk r ys desk′ → AskBytesGives b q [] w desk r [] desk′
+nothing-back b q w desk [] z A = A
+nothing-back b q w desk (y ∷ ys) z A = absurd (omega arith)
 
 -- nothing was lent in front of a buffer
 pub nil-front : (ys out : List ℕ) → length ys ≡ 0 → ys ++ out ≡ out

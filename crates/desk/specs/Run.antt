@@ -1,87 +1,89 @@
--- Over any run of questions the tally is its start plus the answered ones, unless it rests at the top. Of calls by their promises: of the desk that is lent, and of
--- a desk record that is lent as bytes. Assumes nothing.
+-- Over any run of questions each window's tally is its start plus its own answered questions, unless it rests at the top, however the windows are interleaved. Of calls by
+-- their promises: of the desk that is lent, and of a desk record that is lent as bytes. Assumes nothing.
 use mathlib.Core.Path.{_≡_, refl, ap, _∙_}
-use mathlib.Core.Bool.{cond}
-use mathlib.Core.List.{List}
-use Prim.Native.Nat.{ℕ, _+_, _≤_, min}
-use native.Mathlib.Omega.{arith}
-use lib.Dec.{eqb, ltb}
-use lib.ListN.{length, drop}
-use borrow.Author.Tests.{eq-eqb, ne-eqb}
-use Rattle.truss.specs.Limits.{maxTally, tallyLength}
-use Rattle.truss.specs.Refusal.{Checked, passed, refused, refuseIf}
-use Rattle.truss.specs.Question.{Question, Answer}
-use Rattle.truss.specs.Call.{Asked, AskedBytes, nextTally, settle, settleBytes, ask, askBytes, checkDesk, checkedAnswer, tallyIn}
-use Rattle.laws.proofs.Answers.{tally-back}
+use mathlib.Core.List.{List, _++_}
+use Prim.Native.Nat.{ℕ, _+_, _≤_, _<_, min}
+use lib.ListN.{length, getD, take, drop}
+use Rattle.truss.specs.Limits.{windows, maxTally}
+use Rattle.truss.specs.Question.{Question}
+use Rattle.truss.specs.Call.{Reply, Asked, AskedBytes, tallyAt}
+use Rattle.truss.specs.Run.{Seen, Run, none, one, ownAnswered, Asks, AsksBytes}
+use Rattle.laws.proofs.Run.{run-tallies, run-record}
 use Rattle.index.specs.declared.Reply.{Reply as CReply}
+use Rattle.index.specs.Build.{replyIn}
 use Rattle.desk.specs.declared.Desk.{Desk}
-use Rattle.question.specs.Replies.{NotZero, if-not-zero, then-not-zero, checked-not-zero}
 use Rattle.desk.specs.Desk.{AskGives}
 use Rattle.desk.specs.DeskBytes.{AskBytesGives}
 
--- 1 if the reply is an answer
-abbrev pub answeredIn : CReply → ℕ
-answeredIn r = cond (eqb (r .refusal) 0) 1 0
+-- a run of what does no more than others do is a run of those
+run-map : {S T : Type 0} (P : S → ℕ → Reply → S → Type 0) (Q : T → ℕ → Reply → T → Type 0) (f : S → T) → ((s t : S) (w : ℕ) (r : Reply) → P s w r t → Q (f s) w r (f t))
+    → {s t : S} {xs : List Seen} → Run P s xs t → Run Q (f s) xs (f t)
+run-map P Q f h (none) = none
+run-map P Q f h (one w r A R) = one w r (h _ _ w r A) (run-map P Q f h R)
 
 -- ---- the desk
 
--- k of the questions of a run were answered; each call has its own index, question and buffer
-pub data Run : Desk → ℕ → Desk → Type 0 where
-  at-first : {d : Desk} → Run d 0 d
-  then-asked : {d e f : Desk} {k : ℕ} (b : List ℕ) (q : Question) (out : List ℕ) (r : CReply) (out′ : List ℕ) → Run d k e → AskGives e b q out r out′ f → Run d (k + answeredIn r) f
+-- a call of `ask`: each has an index, a question and a buffer of its own
+pub record Call (d : Desk) (w : ℕ) (reply : Reply) (e : Desk) : Type 0 where
+  pub bytes : List ℕ
+  pub question : Question
+  pub buffer : List ℕ
+  pub result : CReply
+  pub buffer′ : List ℕ
+  pub gives : AskGives d bytes question buffer w result buffer′ e
+  pub replies : reply ≡ replyIn result
 
--- one question
-one-asked : (x : Checked Answer) (out : List ℕ) → NotZero x → {t t′ : ℕ} {r : CReply} {out′ : List ℕ} → _≡_ {A = Asked} (record { reply = record { refusal = r .refusal; value = r .value; second = r .second; third = r .third }; buffer = out′; tally = t′ }) (settle x out t) → t ≤ maxTally → t′ ≡ min (t + answeredIn r) maxTally
-unfolding settle NotZero
-one-asked (passed a) out n {t} {t′} {r} q l =
-    let z : r .refusal ≡ 0 = ap (λ (y : Asked). y .reply .refusal) q in
-    let e : t′ ≡ nextTally t = ap (λ (y : Asked). y .tally) q in
-    let k : answeredIn r ≡ 1 = rw (eq-eqb (r .refusal) 0 z) refl in
-    omega (arith, e, k)
-one-asked (refused x) out n {t} {t′} {r} q l =
-    let z : r .refusal ≡ x .number = ap (λ (y : Asked). y .reply .refusal) q in
-    let e : t′ ≡ t = ap (λ (y : Asked). y .tally) q in
-    let k : answeredIn r ≡ 0 = rw (ne-eqb (r .refusal) 0 (λ y. omega (arith, y, z, n))) refl in
-    omega (arith, e, k, l)
+-- what meets the promise is such a call, and nothing more is asked of it
+pub call : (b : List ℕ) (q : Question) (out : List ℕ) (w : ℕ) (r : CReply) (out′ : List ℕ) (d e : Desk) → AskGives d b q out w r out′ e → Call d w (replyIn r) e
+call b q out w r out′ d e A = record { bytes = b; question = q; buffer = out; result = r; buffer′ = out′; gives = A; replies = refl }
 
-pub run-tally : {d e : Desk} {k : ℕ} → d .tally ≤ maxTally → Run d k e → e .tally ≡ min (d .tally + k) maxTally
-unfolding ask
-run-tally l (at-first) = omega (arith, l)
-run-tally l (then-asked {e = e} {k = k} b q out r out′ R A) =
-    let ih = run-tally l R in
-    let one = one-asked (checkedAnswer b q out) out (checked-not-zero b q out) A (omega (arith, ih)) in
-    omega (arith, ih, one)
+call-asks : (d e : Desk) (w : ℕ) (r : Reply) → Call d w r e → Asks (d .tallies) w r (e .tallies)
+call-asks d e w r c =
+    record {
+      bytes = c .bytes;
+      question = c .question;
+      buffer = c .buffer;
+      replies = c .replies ∙ ap (λ (x : Asked). x .reply) (c .gives);
+      leaves = ap (λ (x : Asked). x .tallies) (c .gives);
+    }
+
+-- THE THEOREM of the desk that is lent: a desk has 32 tallies, and none is above the top, by its type
+pub library-run : (d e : Desk) (xs : List Seen) → length (d .tallies) ≡ windows → Run Call d xs e → (length (e .tallies) ≡ windows)
+    × ((w : ℕ) → w < windows → getD (d .tallies) w 0 ≤ maxTally → getD (e .tallies) w 0 ≡ min (getD (d .tallies) w 0 + ownAnswered w xs) maxTally)
+library-run d e xs q R = run-tallies (d .tallies) (e .tallies) xs q (run-map Call Asks (λ x. x .tallies) call-asks R)
 
 -- ---- the desk record as bytes
 
-desk-not-zero : (x : Checked Answer) (desk : List ℕ) → NotZero x → NotZero (checkDesk x desk)
-unfolding checkDesk NotZero
-desk-not-zero x desk n = then-not-zero x (λ a. refuseIf (ltb (length desk) tallyLength) 12 0 (passed a)) n (λ a. if-not-zero (ltb (length desk) tallyLength) 12 (passed a) (omega arith) (tt {0}))
+-- a call of `ask_bytes`, or of one of the questions for a C host, that is lent the record or only a first part of it
+pub record CallBytes (desk : List ℕ) (w : ℕ) (reply : Reply) (desk′ : List ℕ) : Type 0 where
+  pub bytes : List ℕ
+  pub question : Question
+  pub buffer : List ℕ
+  pub lent : ℕ
+  pub result : CReply
+  pub buffer′ : List ℕ
+  pub part′ : List ℕ
+  pub gives : AskBytesGives bytes question buffer w (take lent desk) result buffer′ part′
+  pub replies : reply ≡ replyIn result
+  pub leaves : desk′ ≡ part′ ++ drop lent desk
 
-pub data RunBytes : List ℕ → ℕ → List ℕ → Type 0 where
-  at-first : {d : List ℕ} → RunBytes d 0 d
-  then-asked : {d e f : List ℕ} {k : ℕ} (b : List ℕ) (q : Question) (out : List ℕ) (r : CReply) (out′ : List ℕ) → RunBytes d k e → AskBytesGives b q out e r out′ f → RunBytes d (k + answeredIn r) f
+pub call-bytes : (b : List ℕ) (q : Question) (out : List ℕ) (w : ℕ) (desk : List ℕ) (lent : ℕ) (r : CReply) (out′ part′ : List ℕ)
+    → AskBytesGives b q out w (take lent desk) r out′ part′ → CallBytes desk w (replyIn r) (part′ ++ drop lent desk)
+call-bytes b q out w desk lent r out′ part′ A =
+    record { bytes = b; question = q; buffer = out; lent = lent; result = r; buffer′ = out′; part′ = part′; gives = A; replies = refl; leaves = refl }
 
-one-asked-bytes : (x : Checked Answer) (out desk : List ℕ) → NotZero x → {desk′ : List ℕ} {r : CReply} {out′ : List ℕ}
-    → _≡_ {A = AskedBytes} (record { reply = record { refusal = r .refusal; value = r .value; second = r .second; third = r .third }; buffer = out′; desk = desk′ }) (settleBytes x out desk)
-    → tallyIn desk ≤ maxTally → tallyIn desk′ ≡ min (tallyIn desk + answeredIn r) maxTally
-unfolding settleBytes NotZero
-one-asked-bytes (passed a) out desk n {desk′} {r} q l =
-    let z : r .refusal ≡ 0 = ap (λ (y : AskedBytes). y .reply .refusal) q in
-    let e = ap (λ (y : AskedBytes). tallyIn (y .desk)) q ∙ tally-back (nextTally (tallyIn desk)) (drop 4 desk) (omega arith) in
-    let k : answeredIn r ≡ 1 = rw (eq-eqb (r .refusal) 0 z) refl in
-    omega (arith, e, k)
-one-asked-bytes (refused x) out desk n {desk′} {r} q l =
-    let z : r .refusal ≡ x .number = ap (λ (y : AskedBytes). y .reply .refusal) q in
-    let e : tallyIn desk′ ≡ tallyIn desk = ap (λ (y : AskedBytes). tallyIn (y .desk)) q in
-    let k : answeredIn r ≡ 0 = rw (ne-eqb (r .refusal) 0 (λ y. omega (arith, y, z, n))) refl in
-    omega (arith, e, k, l)
+call-asks-bytes : (d e : List ℕ) (w : ℕ) (r : Reply) → CallBytes d w r e → AsksBytes d w r e
+call-asks-bytes d e w r c =
+    record {
+      bytes = c .bytes;
+      question = c .question;
+      buffer = c .buffer;
+      lent = c .lent;
+      replies = c .replies ∙ ap (λ (x : AskedBytes). x .reply) (c .gives);
+      leaves = c .leaves ∙ ap (λ (x : AskedBytes). x .desk ++ drop (c .lent) d) (c .gives);
+    }
 
--- a tally of four bytes is at most the top
-pub run-bytes-tally : {d e : List ℕ} {k : ℕ} → tallyIn d ≤ maxTally → RunBytes d k e → tallyIn e ≡ min (tallyIn d + k) maxTally
-unfolding askBytes
-run-bytes-tally l (at-first) = omega (arith, l)
-run-bytes-tally l (then-asked {e = e} {k = k} b q out r out′ R A) =
-    let ih = run-bytes-tally l R in
-    let one = one-asked-bytes (checkDesk (checkedAnswer b q out) e) out e (desk-not-zero (checkedAnswer b q out) e (checked-not-zero b q out)) A (omega (arith, ih)) in
-    omega (arith, ih, one)
+-- THE THEOREM of the record as bytes: four bytes hold no more than the top
+pub library-run-bytes : (desk desk′ : List ℕ) (xs : List Seen) → Run CallBytes desk xs desk′ → (length desk′ ≡ length desk)
+    × ((w : ℕ) → w < windows → tallyAt w desk ≤ maxTally → tallyAt w desk′ ≡ min (tallyAt w desk + ownAnswered w xs) maxTally)
+library-run-bytes desk desk′ xs R = run-record desk desk′ xs (run-map CallBytes AsksBytes (λ x. x) call-asks-bytes R)

@@ -1,7 +1,7 @@
-// The figures of document 01 as the code has them, each named once. `named_once` promises that they are those of the definitions (truss: Limits), so a limit is
+// The figures of documents 01 and 02 as the code has them, each named once. `named_once` promises that they are those of the definitions (truss: Limits), so a limit is
 // changed by its line there and its line here.
 ghost use mathlib.Core.Path.{_≡_};
-ghost use Rattle.truss.specs.Limits.{maxAccounts, maxLevel, maxLinks, maxNamed, maxStrength, maxTally, minLevel, minStrength, noGroup, tallyLength};
+ghost use Rattle.truss.specs.Limits.{deskLength, maxAccounts, maxLevel, maxLinks, maxNamed, maxStrength, maxTally, minLevel, minStrength, noGroup, tallyLength, windows};
 ghost use Rattle.truss.specs.Question.{badLevel};
 ghost use Rattle.limits.specs.Range.{strengthOf};
 
@@ -19,6 +19,11 @@ pub const NO_GROUP: usize = 65535;
 pub const MOST_TALLY: u32 = 4294967295;
 
 pub const TALLY_BYTES: usize = 4;
+
+// The windows of a desk, numbered from 0, and the bytes of its record: a tally for each.
+pub const WINDOWS: usize = 32;
+
+pub const DESK_BYTES: usize = WINDOWS * TALLY_BYTES;
 
 // A strength: a number from MIN to MAX. Another crate gets one from `of` alone, or these two.
 pub struct Strength(usize);
@@ -67,7 +72,8 @@ pub fn bad_level(k: usize) -> bool
     Strength::MAX.0 < k
 }
 
-// The figures as one value: of the definitions' limits those of accounts, links, named accounts, no group, a tally (its rest, its bytes), strengths and levels.
+// The figures as one value: of the definitions' limits those of accounts, links, named accounts, no group, a tally (its rest, its bytes), a desk (its windows, its
+// bytes), strengths and levels.
 pub struct Figures {
     pub accounts: usize,
     pub links: usize,
@@ -75,6 +81,8 @@ pub struct Figures {
     pub none: usize,
     pub rest: u32,
     pub bytes: usize,
+    pub windows: usize,
+    pub desk: usize,
     pub weakest: usize,
     pub strongest: usize,
     pub lowest: usize,
@@ -83,7 +91,7 @@ pub struct Figures {
 
 pub fn named_once() -> Figures
     ensures { λ r. ⌜ (r .accounts ≡ maxAccounts) × (r .links ≡ maxLinks) × (r .named ≡ maxNamed) × (r .none ≡ noGroup) ⌝ }
-    ensures { λ r. ⌜ (r .rest ≡ maxTally) × (r .bytes ≡ tallyLength) ⌝ }
+    ensures { λ r. ⌜ (r .rest ≡ maxTally) × (r .bytes ≡ tallyLength) × (r .windows ≡ windows) × (r .desk ≡ deskLength) ⌝ }
     ensures { λ r. ⌜ (r .weakest ≡ minStrength) × (r .strongest ≡ maxStrength) × (r .lowest ≡ minLevel) × (r .highest ≡ maxLevel) ⌝ }
 {
     Figures {
@@ -93,6 +101,8 @@ pub fn named_once() -> Figures
         none: NO_GROUP,
         rest: MOST_TALLY,
         bytes: TALLY_BYTES,
+        windows: WINDOWS,
+        desk: DESK_BYTES,
         weakest: Strength::MIN.0,
         strongest: Strength::MAX.0,
         lowest: LEAST_LEVEL,

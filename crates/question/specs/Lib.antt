@@ -5,4 +5,5 @@ pub mod Links
 pub mod Levels
 pub mod Named
 pub mod Asked
+pub mod Answer
 pub mod Ways

@@ -27,18 +27,26 @@ pub extern "C" fn fe_read(index: &[u8], links: &mut [u8]) -> Reply
 
 // A. The strength of link a-b.
 #[no_mangle]
-pub extern "C" fn fe_strength(index: &[u8], a: u32, b: u32, desk: &mut [u8]) -> Reply
-    ensures { λ r. ⌜ AskBytesGives (now (index .entry)) (ask-strength a b) [] (now (desk .entry)) r [] (now (desk .exit)) ⌝ }
+pub extern "C" fn fe_strength(index: &[u8], a: u32, b: u32, window: u32, desk: &mut [u8]) -> Reply
+    ensures { λ r. ⌜ AskBytesGives (now (index .entry)) (ask-strength a b) [] window (now (desk .entry)) r [] (now (desk .exit)) ⌝ }
 {
-    ask_number(index, Question::Strength { a, b }, desk)
+    ask_number(index, Question::Strength { a, b }, window, desk)
 }
 
 // B. The largest k at which links a-b and c-d are joined, 0 if none.
 #[no_mangle]
-pub extern "C" fn fe_joined(index: &[u8], a: u32, b: u32, c: u32, d: u32, desk: &mut [u8]) -> Reply
-    ensures { λ r. ⌜ AskBytesGives (now (index .entry)) (ask-joined a b c d) [] (now (desk .entry)) r [] (now (desk .exit)) ⌝ }
+pub extern "C" fn fe_joined(
+    index: &[u8],
+    a: u32,
+    b: u32,
+    c: u32,
+    d: u32,
+    window: u32,
+    desk: &mut [u8],
+) -> Reply
+    ensures { λ r. ⌜ AskBytesGives (now (index .entry)) (ask-joined a b c d) [] window (now (desk .entry)) r [] (now (desk .exit)) ⌝ }
 {
-    ask_number(index, Question::Joined { a, b, c, d }, desk)
+    ask_number(index, Question::Joined { a, b, c, d }, window, desk)
 }
 
 // C. The groups at k that hold all named accounts.
@@ -48,11 +56,19 @@ pub extern "C" fn fe_groups_at(
     accounts: &[u8],
     k: u32,
     answer: &mut [u8],
+    window: u32,
     desk: &mut [u8],
 ) -> Reply
-    ensures { λ r. ⌜ AskBytesGives (now (index .entry)) (ask-groups-at k (now (accounts .entry))) (now (answer .entry)) (now (desk .entry)) r (now (answer .exit)) (now (desk .exit)) ⌝ }
+    ensures { λ r. ⌜ AskBytesGives (now (index .entry)) (ask-groups-at k (now (accounts .entry))) (now (answer .entry)) window (now (desk .entry)) r (now (answer .exit)) (now (desk .exit)) ⌝ }
 {
-    ask_bytes(index, accounts, answer, Question::GroupsAt { k }, desk)
+    ask_bytes(
+        index,
+        accounts,
+        answer,
+        Question::GroupsAt { k },
+        window,
+        desk,
+    )
 }
 
 // D. Of the stored groups that hold all of them, those whose strength is greatest.
@@ -61,11 +77,19 @@ pub extern "C" fn fe_strongest_groups(
     index: &[u8],
     accounts: &[u8],
     answer: &mut [u8],
+    window: u32,
     desk: &mut [u8],
 ) -> Reply
-    ensures { λ r. ⌜ AskBytesGives (now (index .entry)) (ask-strongest (now (accounts .entry))) (now (answer .entry)) (now (desk .entry)) r (now (answer .exit)) (now (desk .exit)) ⌝ }
+    ensures { λ r. ⌜ AskBytesGives (now (index .entry)) (ask-strongest (now (accounts .entry))) (now (answer .entry)) window (now (desk .entry)) r (now (answer .exit)) (now (desk .exit)) ⌝ }
 {
-    ask_bytes(index, accounts, answer, Question::StrongestGroups, desk)
+    ask_bytes(
+        index,
+        accounts,
+        answer,
+        Question::StrongestGroups,
+        window,
+        desk,
+    )
 }
 
 // E. All stored groups that hold all of them.
@@ -74,11 +98,12 @@ pub extern "C" fn fe_all_groups(
     index: &[u8],
     accounts: &[u8],
     answer: &mut [u8],
+    window: u32,
     desk: &mut [u8],
 ) -> Reply
-    ensures { λ r. ⌜ AskBytesGives (now (index .entry)) (ask-all (now (accounts .entry))) (now (answer .entry)) (now (desk .entry)) r (now (answer .exit)) (now (desk .exit)) ⌝ }
+    ensures { λ r. ⌜ AskBytesGives (now (index .entry)) (ask-all (now (accounts .entry))) (now (answer .entry)) window (now (desk .entry)) r (now (answer .exit)) (now (desk .exit)) ⌝ }
 {
-    ask_bytes(index, accounts, answer, Question::AllGroups, desk)
+    ask_bytes(index, accounts, answer, Question::AllGroups, window, desk)
 }
 
 // F. The links of the group at k with link a-b; none if its strength is below k.
@@ -89,15 +114,17 @@ pub extern "C" fn fe_group_links(
     b: u32,
     k: u32,
     answer: &mut [u8],
+    window: u32,
     desk: &mut [u8],
 ) -> Reply
-    ensures { λ r. ⌜ AskBytesGives (now (index .entry)) (ask-links k a b) (now (answer .entry)) (now (desk .entry)) r (now (answer .exit)) (now (desk .exit)) ⌝ }
+    ensures { λ r. ⌜ AskBytesGives (now (index .entry)) (ask-links k a b) (now (answer .entry)) window (now (desk .entry)) r (now (answer .exit)) (now (desk .exit)) ⌝ }
 {
     ask_bytes(
         index,
         &index[..0],
         answer,
         Question::GroupLinks { a, b, k },
+        window,
         desk,
     )
 }
@@ -112,15 +139,17 @@ pub extern "C" fn fe_chain(
     d: u32,
     k: u32,
     answer: &mut [u8],
+    window: u32,
     desk: &mut [u8],
 ) -> Reply
-    ensures { λ r. ⌜ AskBytesGives (now (index .entry)) (ask-chain k a b c d) (now (answer .entry)) (now (desk .entry)) r (now (answer .exit)) (now (desk .exit)) ⌝ }
+    ensures { λ r. ⌜ AskBytesGives (now (index .entry)) (ask-chain k a b c d) (now (answer .entry)) window (now (desk .entry)) r (now (answer .exit)) (now (desk .exit)) ⌝ }
 {
     ask_bytes(
         index,
         &index[..0],
         answer,
         Question::Chain { a, b, c, d, k },
+        window,
         desk,
     )
 }

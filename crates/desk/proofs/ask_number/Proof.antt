@@ -22,7 +22,7 @@ same-length : tie.Need-same-length
 same-length c = search needs
 
 returns : tie.Need-returns
-returns c = nothing-back (c .before .before .before .before .before .before .before .before .before .args .index .now) (questionOf (c .before .before .before .before .before .before .before .before .before .args .q) []) (c .before .before .before .before .before .before .before .before .before .args .desk .now) (c .before .before .before .ask-bytes .last .1 .1 .0) (c .before .before .none2 .given) (c .before .before .before .ask-bytes .ensures)
+returns c = nothing-back (c .before .before .before .before .before .before .before .before .before .args .index .now) (questionOf (c .before .before .before .before .before .before .before .before .before .args .q) []) (c .before .before .before .before .before .before .before .before .before .args .window) (c .before .before .before .before .before .before .before .before .before .args .desk .now) (c .before .before .before .ask-bytes .last .1 .1 .0) (c .before .before .none2 .given) (c .before .before .before .ask-bytes .ensures)
 
 pub ask-number-spec : {M : Type 1} → statement M
 ask-number-spec =

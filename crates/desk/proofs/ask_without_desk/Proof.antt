@@ -8,20 +8,20 @@ use borrow.Author.Needs.{needs}
 use Rattle.desk.proofs.ask_without_desk.Statement.{statement}
 use Rattle.desk.proofs.ask_without_desk.Tie as tie
 
-slice-relend-prefix-answer : tie.Need-slice-relend-prefix-answer
-slice-relend-prefix-answer c = search needs
+slice-relend-prefix-answer-from : tie.Need-slice-relend-prefix-answer-from
+slice-relend-prefix-answer-from c = search needs
 
-slice-aggregate-answer : tie.Need-slice-aggregate-answer
-slice-aggregate-answer c = search needs
+slice-aggregate-answer-from : tie.Need-slice-aggregate-answer-from
+slice-aggregate-answer-from c = search needs
 
-answer-requires : tie.Need-answer-requires
-answer-requires c κs = search needs
+answer-from-requires : tie.Need-answer-from-requires
+answer-from-requires c κs = search needs
 
 same-length : tie.Need-same-length
 same-length c = search needs
 
 returns : tie.Need-returns
-returns c = λ desk l. subst (λ (o : List ℕ). AskBytesGives (c .before .before .before .before .before .before .before .before .before .args .index .now) (questionOf (c .before .before .before .before .before .before .before .before .before .args .q) (c .before .before .before .before .before .before .before .before .before .args .named .now)) (c .before .before .before .before .before .before .before .before .before .args .out .now) desk (c .before .before .before .before .answer .result) o desk) (sym (nil-front (c .before .before .before .before .answer .last .1 .1 .0) (c .before .before .before .before .before .before .before .before .before .args .out .now) (c .before .before .before .out .given .0))) (short-refused (c .before .before .before .before .before .before .before .before .before .args .index .now) (questionOf (c .before .before .before .before .before .before .before .before .before .args .q) (c .before .before .before .before .before .before .before .before .before .args .named .now)) (c .before .before .before .before .before .before .before .before .before .args .out .now) desk l (c .before .before .before .before .answer .ensures) (c .if1 .taken))
+returns c = λ desk l. subst (λ (o : List ℕ). AskBytesGives (c .before .before .before .before .before .before .before .before .before .args .index .now) (questionOf (c .before .before .before .before .before .before .before .before .before .args .q) (c .before .before .before .before .before .before .before .before .before .args .named .now)) (c .before .before .before .before .before .before .before .before .before .args .out .now) (c .before .before .before .before .before .before .before .before .before .args .window) desk (c .before .before .before .before .answer-from .result) o desk) (sym (nil-front (c .before .before .before .before .answer-from .last .1 .1 .0) (c .before .before .before .before .before .before .before .before .before .args .out .now) (c .before .before .before .out .given .0))) (short-refused (c .before .before .before .before .before .before .before .before .before .args .index .now) (questionOf (c .before .before .before .before .before .before .before .before .before .args .q) (c .before .before .before .before .before .before .before .before .before .args .named .now)) (c .before .before .before .before .before .before .before .before .before .args .out .now) (c .before .before .before .before .before .before .before .before .before .args .window) desk l (c .before .before .before .before .answer-from .ensures) (c .if1 .taken))
 
 answered-requires : tie.Need-answered-requires
 answered-requires c κs = search needs
@@ -30,15 +30,15 @@ same-length-2 : tie.Need-same-length-2
 same-length-2 c = search needs
 
 returns-2 : tie.Need-returns-2
-returns-2 c = λ desk l. subst (λ (o : List ℕ). AskBytesGives (c .before .before .before .before .before .before .before .before .before .before .args .index .now) (questionOf (c .before .before .before .before .before .before .before .before .before .before .args .q) (c .before .before .before .before .before .before .before .before .before .before .args .named .now)) (c .before .before .before .before .before .before .before .before .before .before .args .out .now) desk (c .answered .result) o desk) (sym (nil-front (c .before .before .before .before .before .answer .last .1 .1 .0) (c .before .before .before .before .before .before .before .before .before .before .args .out .now) (c .before .before .before .before .out .given .0))) (short-12 (c .before .before .before .before .before .before .before .before .before .before .args .index .now) (questionOf (c .before .before .before .before .before .before .before .before .before .before .args .q) (c .before .before .before .before .before .before .before .before .before .before .args .named .now)) (c .before .before .before .before .before .before .before .before .before .before .args .out .now) desk l (c .before .before .before .before .before .answer .ensures) (c .before .if1 .left) (c .answered .ensures))
+returns-2 c = λ desk l. subst (λ (o : List ℕ). AskBytesGives (c .before .before .before .before .before .before .before .before .before .before .args .index .now) (questionOf (c .before .before .before .before .before .before .before .before .before .before .args .q) (c .before .before .before .before .before .before .before .before .before .before .args .named .now)) (c .before .before .before .before .before .before .before .before .before .before .args .out .now) (c .before .before .before .before .before .before .before .before .before .before .args .window) desk (c .answered .result) o desk) (sym (nil-front (c .before .before .before .before .before .answer-from .last .1 .1 .0) (c .before .before .before .before .before .before .before .before .before .before .args .out .now) (c .before .before .before .before .out .given .0))) (short-12 (c .before .before .before .before .before .before .before .before .before .before .args .index .now) (questionOf (c .before .before .before .before .before .before .before .before .before .before .args .q) (c .before .before .before .before .before .before .before .before .before .before .args .named .now)) (c .before .before .before .before .before .before .before .before .before .before .args .out .now) (c .before .before .before .before .before .before .before .before .before .before .args .window) desk l (c .before .before .before .before .before .answer-from .ensures) (c .before .if1 .left) (c .answered .ensures))
 
 pub ask-without-desk-spec : {M : Type 1} → statement M
 ask-without-desk-spec =
     tie.close
     (tie.spec
-    slice-relend-prefix-answer
-    slice-aggregate-answer
-    answer-requires
+    slice-relend-prefix-answer-from
+    slice-aggregate-answer-from
+    answer-from-requires
     same-length
     returns
     answered-requires

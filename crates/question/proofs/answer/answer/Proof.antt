@@ -4,7 +4,7 @@ use native.Mathlib.Omega.{arith}
 use lib.Seq.{length-take-le}
 use Rattle.index.specs.Open.{index-links, opened-is, not-opened, opened-blank}
 use Rattle.stored.specs.Rows.{graphIn, opened-shape, opened-graph}
-use Rattle.question.specs.Replies.{asked-7, asked-of}
+use Rattle.question.specs.Answer.{asked-7, asked-of}
 use Rattle.question.specs.Asked.{questionOf}
 use borrow.Author.Needs.{needs}
 use Rattle.question.proofs.answer.answer.Statement.{statement}
