@@ -26,11 +26,12 @@ typedef struct {
  * Some card has an answer of just so many. */
 #define FE_CHAIN_MAX 6140
 
-/* Bytes of a desk record that the calls use. */
-#define FE_DESK 4
+/* The windows, numbered from 0, and the bytes of a desk record that the calls use: a tally of four bytes for each window. */
+#define FE_WINDOWS 32
+#define FE_DESK 128
 
 /* Bytes of stack that are enough for any call, below the caller's frame. No function calls itself, directly or through others, and each frame has a fixed size, so the
- * deepest row of calls bounds every call, whatever is lent: 156,104 bytes of fe_build, 147,992 of fe_read, 148,424 of a question. Summed from the object code
+ * deepest row of calls bounds every call, whatever is lent: 156,104 bytes of fe_build, 147,992 of fe_read, 148,952 of a question. Summed from the object code
  * (tests/frames) and measured (tests/c/stack.c), not proved. The other 7,736 bytes are for the C library's memset and memcpy: a first call that had to bind memset took
  * 3,184 of them. A thread needs all this and what its own functions take. */
 #define FE_STACK_MAX 163840
@@ -90,54 +91,59 @@ fe_reply fe_read(const uint8_t *index, size_t index_len, uint8_t *links, size_t 
  *             links all have strength k or more (a triangle-connected k-truss community). The same set is stored once, and its strength is its largest k.
  *             Stored groups are numbered from 0, by falling strength, then by least link. A group holds an account that is an end of one of its links.
  *
- * What is lent:
+ * What is given:
  *   index, index_len        the index; it is only read. Any bytes may be lent: every question checks them all, which costs about one build.
  *   accounts, accounts_len  1 to 16 accounts, two bytes each, high byte first; they are only read. A repeat counts as one more and changes no answer.
  *   answer, answer_len      where the answer of C to G goes: a count, then of C to F that many numbers, rising, of G that many triangles of three accounts;
  *                           count, number and account each of two bytes, high byte first.
- *   desk, desk_len          the desk record: its first four bytes are the tally of questions answered, high byte first.
+ *   window                  the number of the window that asks, 0 to 31.
+ *   desk, desk_len          the desk record, which all windows share: its first FE_DESK bytes are 32 tallies in window order, each of four bytes, high byte first:
+ *                           how many questions of that window were answered. Window w has the bytes from 4 * w on. Calls that are lent the same record take
+ *                           turns, also if their windows differ.
  *
- * Done: `value` is the answer of A and B, the number of bytes written at `answer` by C to G; the bytes after those stay. The tally is one more, but rests at
- * 4,294,967,295; the bytes of the desk record after the fourth stay.
+ * Done: `value` is the answer of A and B, the number of bytes written at `answer` by C to G; the bytes after those stay. The window's tally is one more, but rests
+ * at 4,294,967,295; the other tallies and the bytes of the desk record after FE_DESK stay.
  *
- * Refused, with place 0: the first of the call's refusals that applies. The tally stays.
+ * Refused, with place 0: the first of the call's refusals that applies. Every tally stays.
+ *     13  the window is above 31: ahead of all others, 7 included
  *     7   the bytes are not the index of any links file
  *     8   no account named, over 16, or an odd accounts_len
  *     9   an account not below the number of accounts
  *     10  k below 3 or above 64
  *     11  a pair is no link
- *     12  the answer is longer than answer_len; a buffer of just its length suffices, which is two bytes for a count of 0. Or desk_len is below FE_DESK */
+ *     12  the answer is longer than answer_len; a buffer of just its length suffices, which is two bytes for a count of 0. Or desk_len is below FE_DESK,
+ *         whatever the window */
 
-/* A. The strength of the link a-b. Refused by 7, 9, 11, 12, in this order. */
-fe_reply fe_strength(const uint8_t *index, size_t index_len, uint32_t a, uint32_t b, uint8_t *desk, size_t desk_len);
+/* A. The strength of the link a-b. Refused by 13, 7, 9, 11, 12, in this order. */
+fe_reply fe_strength(const uint8_t *index, size_t index_len, uint32_t a, uint32_t b, uint32_t window, uint8_t *desk, size_t desk_len);
 
 /* B. The largest k at which the links a-b and c-d are in one group, 0 if there is none; a link with itself gives its strength, or 0 at strength 2.
- * Refused by 7, 9 (any of the four accounts), 11 (either pair), 12, in this order. */
-fe_reply fe_joined(const uint8_t *index, size_t index_len, uint32_t a, uint32_t b, uint32_t c, uint32_t d, uint8_t *desk, size_t desk_len);
+ * Refused by 13, 7, 9 (any of the four accounts), 11 (either pair), 12, in this order. */
+fe_reply fe_joined(const uint8_t *index, size_t index_len, uint32_t a, uint32_t b, uint32_t c, uint32_t d, uint32_t window, uint8_t *desk, size_t desk_len);
 
-/* C. The numbers of the groups at k that hold all the accounts; their strength may be above k. Refused by 7, 8, 9, 10, 12, in this order. */
+/* C. The numbers of the groups at k that hold all the accounts; their strength may be above k. Refused by 13, 7, 8, 9, 10, 12, in this order. */
 fe_reply fe_groups_at(const uint8_t *index, size_t index_len, const uint8_t *accounts, size_t accounts_len, uint32_t k, uint8_t *answer, size_t answer_len,
-                      uint8_t *desk, size_t desk_len);
+                      uint32_t window, uint8_t *desk, size_t desk_len);
 
-/* D. Of the stored groups that hold all the accounts, the numbers of those with the greatest strength. Refused by 7, 8, 9, 12, in this order. */
+/* D. Of the stored groups that hold all the accounts, the numbers of those with the greatest strength. Refused by 13, 7, 8, 9, 12, in this order. */
 fe_reply fe_strongest_groups(const uint8_t *index, size_t index_len, const uint8_t *accounts, size_t accounts_len, uint8_t *answer, size_t answer_len,
-                             uint8_t *desk, size_t desk_len);
+                             uint32_t window, uint8_t *desk, size_t desk_len);
 
-/* E. The numbers of all stored groups that hold all the accounts. Refused by 7, 8, 9, 12, in this order. */
+/* E. The numbers of all stored groups that hold all the accounts. Refused by 13, 7, 8, 9, 12, in this order. */
 fe_reply fe_all_groups(const uint8_t *index, size_t index_len, const uint8_t *accounts, size_t accounts_len, uint8_t *answer, size_t answer_len,
-                       uint8_t *desk, size_t desk_len);
+                       uint32_t window, uint8_t *desk, size_t desk_len);
 
-/* F. The numbers of the links of the group at k with the link a-b; none if its strength is below k. Refused by 7, 9, 10, 11, 12, in this order. */
+/* F. The numbers of the links of the group at k with the link a-b; none if its strength is below k. Refused by 13, 7, 9, 10, 11, 12, in this order. */
 fe_reply fe_group_links(const uint8_t *index, size_t index_len, uint32_t a, uint32_t b, uint32_t k, uint8_t *answer, size_t answer_len,
-                        uint8_t *desk, size_t desk_len);
+                        uint32_t window, uint8_t *desk, size_t desk_len);
 
 /* G. A shortest chain between the links a-b and c-d at k: the fewest triangles, all of links of strength k or more, of which the first has a-b, the last has
  * c-d, and each shares a link with the next. It shows how two parties of one group hang together. The triangles stand in the chain's order, the accounts of each
  * rising. Among equally short chains it is the one that comes first by those accounts, triangle by triangle from a-b; asked from c-d it may be another. A link
  * with itself gives one triangle if its strength is k or more. The count is 0 if no group at k has both links, and only then.
- * Refused by 7, 9 (any of the four accounts), 10, 11 (either pair), 12, in this order. */
+ * Refused by 13, 7, 9 (any of the four accounts), 10, 11 (either pair), 12, in this order. */
 fe_reply fe_chain(const uint8_t *index, size_t index_len, uint32_t a, uint32_t b, uint32_t c, uint32_t d, uint32_t k, uint8_t *answer, size_t answer_len,
-                  uint8_t *desk, size_t desk_len);
+                  uint32_t window, uint8_t *desk, size_t desk_len);
 
 #ifdef __cplusplus
 }

@@ -15,7 +15,7 @@ use reference::index::{Index, StrongLink};
 use reference::net::Net;
 use reference::records::two;
 use reference::rules::{Rules, MAX_ACCOUNTS, MAX_NAMED};
-use terminal::{Question, ANSWER_MAX, INDEX_MAX};
+use terminal::{Question, ANSWER_MAX, DESK, INDEX_MAX};
 
 const TURNS: usize = 3_000;
 
@@ -182,7 +182,7 @@ fn main() {
         );
 
         let questions = questions(&Index::read(RULES, index).expect("an index"));
-        let (mut answer, mut desk) = ([0; ANSWER_MAX], [0; 4]);
+        let (mut answer, mut desk) = ([0; ANSWER_MAX], [0; DESK]);
         let mut notes = [const { String::new() }; 8];
         for (question, note) in questions.iter().zip(&mut notes) {
             let reply = terminal::put(question, index, &mut answer, &mut desk);

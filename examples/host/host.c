@@ -1,4 +1,5 @@
-/* A host of the terminal: builds the index of card B of document 01, asks every question on it, and meets every refusal. After `rt staticlib terminal`:
+/* A host of the terminal: builds the index of card B of document 01, asks every question on it from two windows, meets every refusal, and shows which window was
+ * answered how often. After `rt staticlib terminal`:
  *
  *     gcc -std=c11 -O2 -Wall -Wextra -Werror -pedantic -Iinclude examples/host/host.c target/staticlib/libterminal.a -o target/host && target/host
  *
@@ -17,13 +18,16 @@ static const uint8_t CARD[] = {
     5,
 };
 
+/* The two windows that ask here, of the 32 that share the desk record. */
+enum { PAYOUTS = 3, DISPUTES = 17 };
+
 /* Accounts as questions name them, two bytes each. */
 static const uint8_t THREE[] = {0, 3}, TWO_AND_FOUR[] = {0, 2, 0, 4}, SEVEN[] = {0, 7};
 
 static uint8_t index_bytes[FE_INDEX_MAX], answer[FE_CHAIN_MAX], desk[FE_DESK];
 
 /* Who can put a refusal right, and its reason. */
-static const char *const WHY[13][2] = {
+static const char *const WHY[14][2] = {
     {"", ""},
     {"filer of links", "an unknown or misplaced kind, a cut record, or bytes after the end"},
     {"filer of links", "the number of accounts is 0 or above 1,024"},
@@ -36,7 +40,8 @@ static const char *const WHY[13][2] = {
     {"window", "an account is not below the number of accounts"},
     {"window", "k is below 3 or above 64"},
     {"window", "a pair is no link"},
-    {"host", "the result is longer than the buffer lent for it, or the desk record is below four bytes"},
+    {"host", "the result is longer than the buffer lent for it, or the desk record is below 128 bytes"},
+    {"host", "the window is above 31"},
 };
 
 static unsigned two(const uint8_t *at) { return at[0] * 256u + at[1]; }
@@ -100,7 +105,16 @@ static fe_reply build_changed(size_t at, uint8_t byte) {
     return fe_build(card, sizeof card, other, sizeof other);
 }
 
-static void tally(void) { printf("Questions answered: %lu.\n", two(desk) * 65536ul + two(desk + 2)); }
+/* The tallies, for the supervisor who wants to see which window puts the questions. */
+static void tallies(void) {
+    printf("Questions answered:");
+    for (unsigned window = 0; window < FE_WINDOWS; window++) {
+        const uint8_t *tally = desk + 4 * window;
+        unsigned long answered = two(tally) * 65536ul + two(tally + 2);
+        if (answered != 0) printf(" %lu at window %u,", answered, window);
+    }
+    printf(" none at the others.\n");
+}
 
 int main(void) {
     fe_reply r = fe_build(CARD, sizeof CARD, index_bytes, sizeof index_bytes);
@@ -111,25 +125,25 @@ int main(void) {
     size_t length = r.value;
     printf("Card B: %u accounts, %u links, an index of %zu bytes.\n", two(index_bytes + 1), two(index_bytes + 3), length);
 
-    number("Strength of 2-3", fe_strength(index_bytes, length, 2, 3, desk, sizeof desk));
-    number("Strength of 4-2", fe_strength(index_bytes, length, 4, 2, desk, sizeof desk));
-    number("Greatest k with 2-3 and 3-4 in one group", fe_joined(index_bytes, length, 2, 3, 3, 4, desk, sizeof desk));
-    r = fe_groups_at(index_bytes, length, THREE, sizeof THREE, 4, answer, sizeof answer, desk, sizeof desk);
+    number("Strength of 2-3", fe_strength(index_bytes, length, 2, 3, PAYOUTS, desk, sizeof desk));
+    number("Strength of 4-2", fe_strength(index_bytes, length, 4, 2, PAYOUTS, desk, sizeof desk));
+    number("Greatest k with 2-3 and 3-4 in one group", fe_joined(index_bytes, length, 2, 3, 3, 4, DISPUTES, desk, sizeof desk));
+    r = fe_groups_at(index_bytes, length, THREE, sizeof THREE, 4, answer, sizeof answer, PAYOUTS, desk, sizeof desk);
     list("Groups at 4 with account 3", r, 0);
-    r = fe_groups_at(index_bytes, length, TWO_AND_FOUR, sizeof TWO_AND_FOUR, 4, answer, sizeof answer, desk, sizeof desk);
+    r = fe_groups_at(index_bytes, length, TWO_AND_FOUR, sizeof TWO_AND_FOUR, 4, answer, sizeof answer, PAYOUTS, desk, sizeof desk);
     list("Groups at 4 with accounts 2 and 4", r, 0);
-    r = fe_groups_at(index_bytes, length, TWO_AND_FOUR, sizeof TWO_AND_FOUR, 3, answer, sizeof answer, desk, sizeof desk);
+    r = fe_groups_at(index_bytes, length, TWO_AND_FOUR, sizeof TWO_AND_FOUR, 3, answer, sizeof answer, PAYOUTS, desk, sizeof desk);
     list("Groups at 3 with accounts 2 and 4", r, 0);
-    r = fe_strongest_groups(index_bytes, length, THREE, sizeof THREE, answer, sizeof answer, desk, sizeof desk);
+    r = fe_strongest_groups(index_bytes, length, THREE, sizeof THREE, answer, sizeof answer, PAYOUTS, desk, sizeof desk);
     list("Strongest groups with account 3", r, 0);
-    r = fe_all_groups(index_bytes, length, THREE, sizeof THREE, answer, sizeof answer, desk, sizeof desk);
+    r = fe_all_groups(index_bytes, length, THREE, sizeof THREE, answer, sizeof answer, PAYOUTS, desk, sizeof desk);
     list("All groups with account 3", r, 0);
-    list("Links of the group at 4 with 3-4", fe_group_links(index_bytes, length, 3, 4, 4, answer, sizeof answer, desk, sizeof desk), 1);
-    list("Links of the group at 4 with 2-4", fe_group_links(index_bytes, length, 2, 4, 4, answer, sizeof answer, desk, sizeof desk), 1);
-    chain("2-3 and 3-4", 3, fe_chain(index_bytes, length, 2, 3, 3, 4, 3, answer, sizeof answer, desk, sizeof desk));
-    chain("2-3 and 3-4", 4, fe_chain(index_bytes, length, 2, 3, 3, 4, 4, answer, sizeof answer, desk, sizeof desk));
-    chain("0-1 and 5-6", 3, fe_chain(index_bytes, length, 0, 1, 5, 6, 3, answer, sizeof answer, desk, sizeof desk));
-    tally();
+    list("Links of the group at 4 with 3-4", fe_group_links(index_bytes, length, 3, 4, 4, answer, sizeof answer, PAYOUTS, desk, sizeof desk), 1);
+    list("Links of the group at 4 with 2-4", fe_group_links(index_bytes, length, 2, 4, 4, answer, sizeof answer, PAYOUTS, desk, sizeof desk), 1);
+    chain("2-3 and 3-4", 3, fe_chain(index_bytes, length, 2, 3, 3, 4, 3, answer, sizeof answer, DISPUTES, desk, sizeof desk));
+    chain("2-3 and 3-4", 4, fe_chain(index_bytes, length, 2, 3, 3, 4, 4, answer, sizeof answer, DISPUTES, desk, sizeof desk));
+    chain("0-1 and 5-6", 3, fe_chain(index_bytes, length, 0, 1, 5, 6, 3, answer, sizeof answer, DISPUTES, desk, sizeof desk));
+    tallies();
 
     refused(build_changed(70, 6)); /* another link where the end should be */
     refused(build_changed(2, 0));  /* no accounts */
@@ -138,16 +152,17 @@ int main(void) {
     refused(build_changed(9, 0));  /* 0-0 */
     refused(build_changed(14, 1)); /* the second link: 0-1 again */
     index_bytes[10]--;             /* the strength of the first link */
-    refused(fe_strength(index_bytes, length, 2, 3, desk, sizeof desk));
+    refused(fe_strength(index_bytes, length, 2, 3, PAYOUTS, desk, sizeof desk));
     index_bytes[10]++; /* and back */
-    refused(fe_all_groups(index_bytes, length, THREE, 0, answer, sizeof answer, desk, sizeof desk));
-    refused(fe_all_groups(index_bytes, length, SEVEN, sizeof SEVEN, answer, sizeof answer, desk, sizeof desk));
-    refused(fe_group_links(index_bytes, length, 2, 3, 65, answer, sizeof answer, desk, sizeof desk));
-    refused(fe_strength(index_bytes, length, 0, 6, desk, sizeof desk));
-    refused(fe_all_groups(index_bytes, length, THREE, sizeof THREE, answer, 7, desk, sizeof desk)); /* three groups take 8 bytes */
-    refused(fe_chain(index_bytes, length, 0, 1, 5, 7, 3, answer, sizeof answer, desk, sizeof desk)); /* the second link: 5-7, and there is no account 7 */
-    refused(fe_chain(index_bytes, length, 0, 1, 0, 6, 3, answer, sizeof answer, desk, sizeof desk)); /* 0-6 */
-    refused(fe_chain(index_bytes, length, 0, 1, 5, 6, 3, answer, 31, desk, sizeof desk));            /* five triangles take 32 bytes */
-    tally();
+    refused(fe_all_groups(index_bytes, length, THREE, 0, answer, sizeof answer, PAYOUTS, desk, sizeof desk));
+    refused(fe_all_groups(index_bytes, length, SEVEN, sizeof SEVEN, answer, sizeof answer, PAYOUTS, desk, sizeof desk));
+    refused(fe_group_links(index_bytes, length, 2, 3, 65, answer, sizeof answer, PAYOUTS, desk, sizeof desk));
+    refused(fe_strength(index_bytes, length, 0, 6, PAYOUTS, desk, sizeof desk));
+    refused(fe_all_groups(index_bytes, length, THREE, sizeof THREE, answer, 7, PAYOUTS, desk, sizeof desk)); /* three groups take 8 bytes */
+    refused(fe_chain(index_bytes, length, 0, 1, 5, 7, 3, answer, sizeof answer, DISPUTES, desk, sizeof desk)); /* the second link: 5-7, and there is no account 7 */
+    refused(fe_chain(index_bytes, length, 0, 1, 0, 6, 3, answer, sizeof answer, DISPUTES, desk, sizeof desk)); /* 0-6 */
+    refused(fe_chain(index_bytes, length, 0, 1, 5, 6, 3, answer, 31, DISPUTES, desk, sizeof desk));            /* five triangles take 32 bytes */
+    refused(fe_strength(index_bytes, length, 2, 3, FE_WINDOWS, desk, sizeof desk));                            /* window 32: the last one is 31 */
+    tallies();
     return 0;
 }

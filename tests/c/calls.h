@@ -14,7 +14,7 @@ struct slice {
 /* A call with its numbers and all that it is lent. Not every call has all of it. */
 struct asked {
     enum call call;
-    uint32_t number[4], k;
+    uint32_t number[4], k, window;
     struct slice read, accounts, buffer, desk; /* a buffer is an index, a links file or an answer */
 };
 
@@ -50,18 +50,18 @@ static inline int has_buffer(enum call call) {
 }
 
 static inline fe_reply make_call(const struct asked *asked) {
-    const uint32_t *n = asked->number;
+    const uint32_t *n = asked->number, w = asked->window;
     struct slice i = asked->read, v = asked->accounts, o = asked->buffer, d = asked->desk;
     switch (asked->call) {
     case BUILD: return fe_build(i.at, i.length, o.at, o.length);
     case READ: return fe_read(i.at, i.length, o.at, o.length);
-    case STRENGTH: return fe_strength(i.at, i.length, n[0], n[1], d.at, d.length);
-    case JOINED: return fe_joined(i.at, i.length, n[0], n[1], n[2], n[3], d.at, d.length);
-    case GROUPS_AT: return fe_groups_at(i.at, i.length, v.at, v.length, asked->k, o.at, o.length, d.at, d.length);
-    case STRONGEST: return fe_strongest_groups(i.at, i.length, v.at, v.length, o.at, o.length, d.at, d.length);
-    case ALL_GROUPS: return fe_all_groups(i.at, i.length, v.at, v.length, o.at, o.length, d.at, d.length);
-    case GROUP_LINKS: return fe_group_links(i.at, i.length, n[0], n[1], asked->k, o.at, o.length, d.at, d.length);
-    default: return fe_chain(i.at, i.length, n[0], n[1], n[2], n[3], asked->k, o.at, o.length, d.at, d.length);
+    case STRENGTH: return fe_strength(i.at, i.length, n[0], n[1], w, d.at, d.length);
+    case JOINED: return fe_joined(i.at, i.length, n[0], n[1], n[2], n[3], w, d.at, d.length);
+    case GROUPS_AT: return fe_groups_at(i.at, i.length, v.at, v.length, asked->k, o.at, o.length, w, d.at, d.length);
+    case STRONGEST: return fe_strongest_groups(i.at, i.length, v.at, v.length, o.at, o.length, w, d.at, d.length);
+    case ALL_GROUPS: return fe_all_groups(i.at, i.length, v.at, v.length, o.at, o.length, w, d.at, d.length);
+    case GROUP_LINKS: return fe_group_links(i.at, i.length, n[0], n[1], asked->k, o.at, o.length, w, d.at, d.length);
+    default: return fe_chain(i.at, i.length, n[0], n[1], n[2], n[3], asked->k, o.at, o.length, w, d.at, d.length);
     }
 }
 

@@ -1,5 +1,5 @@
-/* Slices at the edges of what may be lent: empty ones with any pointer (of a live byte, into memory that cannot be touched, null) in every combination, accounts
- * that lie inside the index, and slices longer than 4 GiB. The library must reply as for plain slices; and each planted fault must be found.
+/* Slices at the edges of what may be lent: empty ones with any pointer (of a live byte, into memory that cannot be touched, null) in every combination, from a window
+ * and from none, accounts that lie inside the index, and slices longer than 4 GiB. The library must reply as for plain slices; and each planted fault must be found.
  * The last line is 'N passed, M failed', one for each combination, part of the index, long slice and planted fault. */
 #define _GNU_SOURCE
 #include "calls.h"
@@ -8,7 +8,7 @@
 #include <string.h>
 #include <sys/mman.h>
 
-enum { PAGE = 4096, FILL = 0xA5, RECORD = 6, ROOM = 200 };
+enum { PAGE = 4096, FILL = 0xA5, RECORD = FE_DESK + 2, ROOM = 200, WINDOW = 17 };
 
 /* Card A of document 01. */
 static const uint8_t CARD[36] = {
@@ -53,9 +53,9 @@ static struct slice in_state(uint8_t *at, size_t length, enum state state) {
     return (struct slice){pointer[state], state == WHOLE ? length : 0};
 }
 
-/* The call with its slices in these states; the memory is filled anew. */
+/* The call from window 17 with its slices in these states; the memory is filled anew. */
 static struct asked lend(enum call call, enum state read, enum state accounts, enum state buffer, enum state desk) {
-    struct asked a = {.call = call, .k = ASKED.k};
+    struct asked a = {.call = call, .k = ASKED.k, .window = WINDOW};
     size_t length = call == BUILD ? sizeof CARD : index_len;
     memset(&own, FILL, sizeof own);
     memcpy(own.read, call == BUILD ? CARD : index_bytes, length);
@@ -68,33 +68,42 @@ static struct asked lend(enum call call, enum state read, enum state accounts, e
 
 /* ---- empty slices ---- */
 
-/* The refusal that the empty slices lead to, in the calls' order of checks; 0 if none. */
+/* The refusal that the window and the empty slices lead to, in the calls' order of checks; 0 if none. */
 static uint32_t refusal_of(const struct asked *a) {
+    if (is_question(a->call) && a->window >= FE_WINDOWS) return 13;
     if (!a->read.length) return a->call == BUILD ? 1 : 7;
     if (has_accounts(a->call) && !a->accounts.length) return 8;
     if (has_buffer(a->call) && !a->buffer.length) return 12;
     return is_question(a->call) && !a->desk.length ? 12 : 0;
 }
 
+/* The desk record as it must be: all tallies 0 but that of an answered question. */
+static void desk_after(int answered, uint8_t *desk) {
+    memset(desk, FILL, RECORD), memset(desk, 0, FE_DESK);
+    if (answered) desk[4 * WINDOW + 3] = 1;
+}
+
 /* Reply, buffer and desk record are as they must be. */
 static int right(const struct asked *a, fe_reply reply) {
-    uint8_t buffer[ROOM], desk[RECORD] = {0, 0, 0, 0, FILL, FILL};
+    uint8_t buffer[ROOM], desk[RECORD];
     uint32_t refusal = refusal_of(a);
     int done = refusal == 0;
     memset(buffer, FILL, ROOM);
     if (done && has_buffer(a->call)) memcpy(buffer, result[a->call], value[a->call]);
-    if (done && is_question(a->call)) desk[3] = 1;
+    desk_after(done && is_question(a->call), desk);
     return reply.refusal == refusal && reply.value == (done ? value[a->call] : 0) && !reply.second && !reply.third && !memcmp(own.buffer, buffer, ROOM) &&
            !memcmp(own.desk, desk, RECORD);
 }
 
-/* All states of all slices that the call has; gives how many combinations were wrong. */
+/* All states of all slices that the call has, from window 17 and from 32, which there is not; gives how many combinations were wrong. */
 static int combinations(library *library, enum call call, int counted) {
+    enum { ALL = STATES * STATES * STATES * STATES };
     int wrong = 0;
-    for (int i = 0; i < STATES * STATES * STATES * STATES; i++) {
-        enum state read = i % STATES, accounts = i / STATES % STATES, buffer = i / STATES / STATES % STATES, desk = i / STATES / STATES / STATES;
-        if ((!has_accounts(call) && accounts) || (!has_buffer(call) && buffer) || (!is_question(call) && desk)) continue;
+    for (int i = 0; i < 2 * ALL; i++) {
+        enum state read = i % STATES, accounts = i / STATES % STATES, buffer = i / STATES / STATES % STATES, desk = i / STATES / STATES / STATES % STATES;
+        if ((!has_accounts(call) && accounts) || (!has_buffer(call) && buffer) || (!is_question(call) && (desk || i >= ALL))) continue;
         struct asked a = lend(call, read, accounts, buffer, desk);
+        if (i >= ALL) a.window = FE_WINDOWS;
         int holds = right(&a, library(&a));
         if (counted) count("empty slices", name_of(call), holds);
         wrong += !holds;
@@ -131,6 +140,7 @@ static const size_t FOUR_GIB = (size_t)1 << 32;
 
 /* Each slice in turn is 4 GiB longer than it was: what is read is then refused, what is written suffices. Gives how many were wrong. */
 static int long_slices(library *library, uint8_t *memory, enum call call, int counted) {
+    uint8_t desk[RECORD];
     int wrong = 0;
     for (int which = 0; which < 4; which++) {
         struct asked a = lend(call, WHOLE, WHOLE, WHOLE, WHOLE);
@@ -144,7 +154,8 @@ static int long_slices(library *library, uint8_t *memory, enum call call, int co
         fe_reply reply = library(&a);
         int holds = reply.refusal == refusal && reply.value == wanted && !reply.second && !reply.third;
         if (which == 2 && holds) holds = !memcmp(memory, result[call], value[call]);
-        if (which == 3 && holds) holds = memory[3] == 1 && memory[4] == FILL;
+        desk_after(1, desk);
+        if (which == 3 && holds) holds = !memcmp(memory, desk, RECORD);
         if (counted) count("a slice above 4 GiB", name_of(call), holds);
         wrong += !holds;
     }
@@ -156,6 +167,10 @@ static int long_slices(library *library, uint8_t *memory, enum call call, int co
 static fe_reply null_is_12(const struct asked *a) {
     fe_reply reply = make_call(a);
     return a->desk.at == NULL && is_question(a->call) && reply.refusal == 7 ? (fe_reply){12, 0, 0, 0} : reply;
+}
+
+static fe_reply null_before_window(const struct asked *a) {
+    return a->window >= FE_WINDOWS && a->read.at == NULL ? (fe_reply){7, 0, 0, 0} : make_call(a);
 }
 
 static fe_reply empty_is_done(const struct asked *a) {
@@ -183,6 +198,7 @@ static fe_reply room_cut(const struct asked *a) {
 
 static void planted_faults(uint8_t *memory) {
     count("planted", "a null desk record refused first", combinations(null_is_12, STRENGTH, 0) > 0);
+    count("planted", "a null index refused before the window", combinations(null_before_window, JOINED, 0) > 0);
     count("planted", "a reading into nothing done", combinations(empty_is_done, READ, 0) > 0);
     count("planted", "other accounts read where they lie in the index", inside(looks_at_another_account, ALL_GROUPS, 0) > 0);
     if (!memory) return;

@@ -55,7 +55,7 @@ static void draw(uint32_t first, int nest) {
 /* The call on this card that goes deepest. */
 static void prepare(enum call call, size_t room) {
     asked = (struct asked){.call = call, .k = 3, .number = {0, 1, 1, last}, .read = {index_bytes, length}, .accounts = {accounts, sizeof accounts},
-                           .buffer = {answer, sizeof answer}, .desk = {desk, sizeof desk}};
+                           .buffer = {answer, sizeof answer}, .window = FE_WINDOWS - 1, .desk = {desk, sizeof desk}};
     if (call == STRENGTH) asked.number[0] = 1, asked.number[1] = last;
     if (call == CHAIN) asked.number[0] = 2, asked.number[1] = 3; /* two triangles from 1-last, or three */
     if (call == READ) asked.buffer = (struct slice){back, sizeof back};

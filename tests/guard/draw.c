@@ -217,7 +217,31 @@ static void draw_level(struct random *r, struct turn *t) {
 static void draw_tally(struct random *r, struct turn *t) {
     static const uint32_t EDGES[] = {0, 1, 254, 255, 256, 65535, 65536, 16777215, 16777216, UINT32_MAX - 1, UINT32_MAX};
     t->tally = random_below(r, 3) ? EDGES[random_below(r, sizeof EDGES / sizeof *EDGES)] : (uint32_t)random_number(r);
-    t->desk_len = (uint8_t)(random_below(r, 12) ? 4 + random_below(r, 6) : random_below(r, 4));
+}
+
+/* Mostly one that there is, often the last; else 32, 33, or one that would be a window if it were cut. */
+static void draw_window(struct random *r, struct turn *t) {
+    static const uint32_t EDGES[] = {32, 32, 33, 63, 64, 255, 256, UINT32_C(0x10000), UINT32_C(0x80000000), UINT32_MAX};
+    static const uint32_t MORE[] = {32, 64, 256, UINT32_C(0x10000), UINT32_C(0x80000000)};
+    t->window = random_below(r, 6) ? random_below(r, FE_WINDOWS) : random_below(r, 3) ? 31 : 0;
+    switch (random_below(r, 20)) {
+    case 0: t->window = EDGES[random_below(r, sizeof EDGES / sizeof *EDGES)]; break;
+    case 1: t->window += MORE[random_below(r, sizeof MORE / sizeof *MORE)]; break;
+    default: break;
+    }
+}
+
+/* Mostly long enough; else by one byte not, or just so that the window's own tally is there or is not, or any; seldom very long. */
+static void draw_desk_len(struct random *r, struct turn *t) {
+    uint16_t own = (uint16_t)(4 * (t->window % FE_WINDOWS));
+    const uint16_t lengths[] = {0, 4, own + 3, own + 4, FE_DESK - 1, FE_DESK - 1, (uint16_t)random_below(r, FE_DESK)};
+    t->desk_len = (uint16_t)(FE_DESK + random_below(r, 6));
+    if (random_below(r, 10) == 0) t->desk_len = lengths[random_below(r, sizeof lengths / sizeof *lengths)];
+    if (random_below(r, 100) == 0) t->desk_len = (uint16_t)random_number(r);
+}
+
+static void draw_desk(struct random *r, struct turn *t) {
+    draw_tally(r, t), draw_window(r, t), draw_desk_len(r, t);
 }
 
 static void draw_room(struct random *r, struct turn *t) {
@@ -238,7 +262,7 @@ static void draw_edit(struct random *r, struct turn *t) {
 void draw_fresh(struct random *r, struct turn *t) {
     t->call = (uint8_t)random_below(r, CALLS), t->as_card = 1, t->lay = (uint8_t)random_number(r), t->edits = 0;
     if (random_below(r, 4)) t->lay &= (uint8_t)~ACCOUNTS_INSIDE;
-    draw_card(r, t), draw_numbers(r, t), draw_accounts(r, t), draw_level(r, t), draw_tally(r, t), draw_room(r, t);
+    draw_card(r, t), draw_numbers(r, t), draw_accounts(r, t), draw_level(r, t), draw_desk(r, t), draw_room(r, t);
     if (random_below(r, 4) == 0) draw_edit(r, t);
 }
 
@@ -262,7 +286,7 @@ static void change_once(struct random *r, struct turn *t, const struct turn *oth
     case 5: t->call = (uint8_t)random_below(r, CALLS); break;
     case 6: t->lay ^= (uint8_t)(1 << random_below(r, 6)); break;
     case 7: draw_room(r, t); break;
-    case 8: draw_tally(r, t); break;
+    case 8: draw_desk(r, t); break;
     case 9: draw_numbers(r, t); break;
     case 10: draw_accounts(r, t); break;
     case 11: draw_level(r, t); break;

@@ -21,7 +21,8 @@ enum { TURNS = 120000, PLANTED_TURNS = 20000, KEPT = 1 << 15, SHOWN = 5 };
 
 /* The refusals that each call can have. */
 static const uint8_t REFUSALS[CALLS][8] = {
-    {1, 2, 3, 4, 5, 6, 12}, {7, 12}, {7, 9, 11, 12}, {7, 9, 11, 12}, {7, 8, 9, 10, 12}, {7, 8, 9, 12}, {7, 8, 9, 12}, {7, 9, 10, 11, 12}, {7, 9, 10, 11, 12},
+    {1, 2, 3, 4, 5, 6, 12}, {7, 12}, {7, 9, 11, 12, 13}, {7, 9, 11, 12, 13}, {7, 8, 9, 10, 12, 13}, {7, 8, 9, 12, 13}, {7, 8, 9, 12, 13}, {7, 9, 10, 11, 12, 13},
+    {7, 9, 10, 11, 12, 13},
 };
 
 struct kept {
@@ -31,7 +32,7 @@ struct kept {
 
 static struct kept kept[KEPT];
 static size_t kept_count;
-static uint64_t passed, failed, made, met_count[CALLS][13];
+static uint64_t passed, failed, made, met_count[CALLS][14], answered[FE_WINDOWS];
 
 static uint8_t data[TURN_MAX];
 static struct turn turn, other;
@@ -39,12 +40,12 @@ static struct turn turn, other;
 /* ---- what is new ---- */
 
 static int is_new_reply(const struct met *met) {
-    static uint8_t seen[CALLS * 13 * 131 * 32];
+    static uint8_t seen[CALLS * 14 * 131 * 32];
     uint32_t value = met->reply.value, size = 0, large = 0;
     for (uint32_t v = value; v; v >>= 1) size++;
     for (size_t v = met->length; v; v >>= 1) large++;
     if (met->reply.refusal == 0 && value < 64) size = 64 + value;
-    uint32_t key = ((met->call * 13u + met->reply.refusal) * 131u + size) * 32u + large;
+    uint32_t key = ((met->call * 14u + met->reply.refusal) * 131u + size) * 32u + large;
     int new = !seen[key];
     seen[key] = 1;
     return new;
@@ -99,6 +100,7 @@ static int one(const struct turn *t) {
     }
     passed++;
     met_count[met.call][met.reply.refusal]++;
+    if (is_question(met.call) && met.reply.refusal == 0) answered[t->window]++;
     return coverage_blocks() ? coverage_look() != 0 : is_new_reply(&met);
 }
 
@@ -145,6 +147,12 @@ static void show_met(void) {
         failed++;
         printf("FAILED guard: some reply of %s was never met\n", name_of(call));
     }
+    uint64_t least = answered[0];
+    for (int window = 1; window < FE_WINDOWS; window++) least = answered[window] < least ? answered[window] : least;
+    printf("  answered to each window: %llu or more\n", (unsigned long long)least);
+    if (least) return;
+    failed++;
+    printf("FAILED guard: some window was never answered\n");
 }
 
 /* The turns must find each planted fault. */

@@ -132,7 +132,7 @@ static fe_reply one_less(const struct asked *a) {
 
 static fe_reply short_desk_first(const struct asked *a) {
     fe_reply reply = make_call(a);
-    if (reply.refusal && a->desk.length < 4) reply.refusal = 12;
+    if (reply.refusal && reply.refusal != 13 && a->desk.length < FE_DESK) reply.refusal = 12;
     return reply;
 }
 
@@ -216,30 +216,152 @@ static fe_reply second_link_first(const struct asked *a) {
 
 /* ---- the tally ---- */
 
+static uint8_t *tally_of(const struct asked *a) {
+    return a->desk.at + 4 * (size_t)a->window;
+}
+
+static int has_tally(const struct asked *a) {
+    return a->window < FE_WINDOWS && a->desk.length >= FE_DESK;
+}
+
+static int is_top(const uint8_t *d) {
+    return d[0] == 255 && d[1] == 255 && d[2] == 255 && d[3] == 255;
+}
+
 static fe_reply tally_by_two(const struct asked *a) {
     fe_reply reply = make_call(a);
-    if (reply.refusal == 0 && a->desk.at[3] < 255) a->desk.at[3]++;
+    if (reply.refusal == 0 && tally_of(a)[3] < 255) tally_of(a)[3]++;
     return reply;
 }
 
 static fe_reply tally_wraps(const struct asked *a) {
-    const uint8_t *d = a->desk.at;
-    int top = a->desk.length >= 4 && d[0] == 255 && d[1] == 255 && d[2] == 255 && d[3] == 255;
+    int top = has_tally(a) && is_top(tally_of(a));
     fe_reply reply = make_call(a);
-    for (int i = 0; i < 4 && top && reply.refusal == 0; i++) a->desk.at[i] = 0;
+    for (int i = 0; i < 4 && top && reply.refusal == 0; i++) tally_of(a)[i] = 0;
     return reply;
 }
 
 static fe_reply tally_moved_when_refused(const struct asked *a) {
     fe_reply reply = make_call(a);
-    if (reply.refusal == 11 && a->desk.length >= 4) a->desk.at[3]++;
+    if (reply.refusal == 11 && has_tally(a)) tally_of(a)[3]++;
     return reply;
 }
 
-static fe_reply fifth_desk_byte(const struct asked *a) {
+static fe_reply byte_after_the_tallies(const struct asked *a) {
     fe_reply reply = make_call(a);
-    if (reply.refusal == 0 && a->desk.length > 4) flip(a->desk.at + 4);
+    if (reply.refusal == 0 && a->desk.length > FE_DESK) flip(a->desk.at + FE_DESK);
     return reply;
+}
+
+/* ---- windows ---- */
+
+static fe_reply from_window(const struct asked *a, uint32_t window) {
+    struct asked other = *a;
+    other.window = window;
+    return make_call(&other);
+}
+
+static fe_reply next_window_moved(const struct asked *a) {
+    return a->window < FE_WINDOWS ? from_window(a, (a->window + 1) % FE_WINDOWS) : make_call(a);
+}
+
+static fe_reply all_windows_moved(const struct asked *a) {
+    fe_reply reply = make_call(a);
+    for (uint32_t window = 0; window < FE_WINDOWS && reply.refusal == 0; window++)
+        if (window != a->window) from_window(a, window);
+    return reply;
+}
+
+static fe_reply window_by_32(const struct asked *a) {
+    return from_window(a, a->window % FE_WINDOWS);
+}
+
+static fe_reply window_cut(const struct asked *a) {
+    return from_window(a, a->window & 255);
+}
+
+static fe_reply last_window_refused(const struct asked *a) {
+    return a->window == FE_WINDOWS - 1 ? from_window(a, FE_WINDOWS) : make_call(a);
+}
+
+/* Window 32 has the bytes after the tallies, or after the record. */
+static fe_reply one_window_more(const struct asked *a) {
+    struct asked other = *a;
+    if (a->window == FE_WINDOWS && a->desk.length >= FE_DESK) other.window--, other.desk.at += 4;
+    return make_call(&other);
+}
+
+static fe_reply window_for_a_place(const struct asked *a) {
+    fe_reply reply = make_call(a);
+    if (reply.refusal == 13) reply.value = a->window;
+    return reply;
+}
+
+static fe_reply no_window_counts(const struct asked *a) {
+    fe_reply reply = make_call(a);
+    if (reply.refusal == 13 && a->desk.length >= FE_DESK) flip(a->desk.at + 3);
+    return reply;
+}
+
+static fe_reply no_index_before_13(const struct asked *a) {
+    struct asked other = *a;
+    other.window = 0, other.desk = (struct slice){NULL, 0};
+    fe_reply reply = a->window >= FE_WINDOWS ? make_call(&other) : (fe_reply){0, 0, 0, 0};
+    return reply.refusal == 7 ? reply : make_call(a);
+}
+
+static fe_reply short_desk_before_13(const struct asked *a) {
+    return a->window >= FE_WINDOWS && a->desk.length < FE_DESK ? (fe_reply){12, 0, 0, 0} : make_call(a);
+}
+
+static fe_reply short_room_before_13(const struct asked *a) {
+    return a->window >= FE_WINDOWS && a->buffer.length < 2 ? (fe_reply){12, 0, 0, 0} : make_call(a);
+}
+
+static fe_reply carry_into_the_tally_before(const struct asked *a) {
+    int carry = has_tally(a) && is_top(tally_of(a));
+    fe_reply reply = make_call(a);
+    if (reply.refusal == 0 && carry) tally_of(a)[-1]++;
+    return reply;
+}
+
+static fe_reply carry_into_the_next_tally(const struct asked *a) {
+    int carry = has_tally(a) && tally_of(a)[3] == 255 && !is_top(tally_of(a));
+    fe_reply reply = make_call(a);
+    if (reply.refusal == 0 && carry) tally_of(a)[4]++;
+    return reply;
+}
+
+/* A record that is short, but not shorter than this, as a whole one. */
+static fe_reply taken_from(const struct asked *a, size_t least) {
+    uint8_t record[FE_DESK] = {0};
+    struct asked other = *a;
+    if (a->desk.length >= FE_DESK || a->desk.length < least) return make_call(a);
+    for (size_t i = 0; i < a->desk.length; i++) record[i] = a->desk.at[i];
+    other.desk = (struct slice){record, FE_DESK};
+    fe_reply reply = make_call(&other);
+    for (size_t i = 0; i < a->desk.length; i++) a->desk.at[i] = record[i];
+    return reply;
+}
+
+static fe_reply one_byte_short(const struct asked *a) {
+    return taken_from(a, FE_DESK - 1);
+}
+
+static fe_reply own_bytes_only(const struct asked *a) {
+    return taken_from(a, 4 * (size_t)a->window + 4);
+}
+
+/* Looks at the window's tally before it looks at the record's length. */
+static fe_reply reads_tally_first(const struct asked *a) {
+    if (a->window < FE_WINDOWS) look(tally_of(a));
+    return make_call(a);
+}
+
+/* Looks at the tally before it looks at the window. */
+static fe_reply reads_tally_of_no_window(const struct asked *a) {
+    if (a->desk.length >= FE_DESK) look(tally_of(a));
+    return make_call(a);
 }
 
 const struct planted PLANTED[] = {
@@ -291,7 +413,24 @@ const struct planted PLANTED[] = {
     {"the tally moved by two", STRENGTH, tally_by_two},
     {"the tally gone from the top to 0", JOINED, tally_wraps},
     {"the tally moved by a refused question", JOINED, tally_moved_when_refused},
-    {"the desk record's fifth byte changed", JOINED, fifth_desk_byte},
+    {"the byte after the tallies changed", JOINED, byte_after_the_tallies},
+    {"the next window's tally moved", STRENGTH, next_window_moved},
+    {"all tallies moved", ALL_GROUPS, all_windows_moved},
+    {"window 32 taken for 0", JOINED, window_by_32},
+    {"the window cut to a byte", GROUPS_AT, window_cut},
+    {"window 31 refused", STRONGEST, last_window_refused},
+    {"a tally for window 32", STRENGTH, one_window_more},
+    {"the window for a place", CHAIN, window_for_a_place},
+    {"a tally moved by 13", GROUP_LINKS, no_window_counts},
+    {"7 before 13", STRENGTH, no_index_before_13},
+    {"12 of the desk record before 13", JOINED, short_desk_before_13},
+    {"12 of the answer before 13", ALL_GROUPS, short_room_before_13},
+    {"a carry into the tally before", GROUP_LINKS, carry_into_the_tally_before},
+    {"a carry into the next tally", GROUPS_AT, carry_into_the_next_tally},
+    {"a desk record of 127 bytes answered", CHAIN, one_byte_short},
+    {"a desk record that ends with the window's tally answered", STRENGTH, own_bytes_only},
+    {"the tally read in a record that is short", STRONGEST, reads_tally_first},
+    {"the tally of no window read", ALL_GROUPS, reads_tally_of_no_window},
 };
 
 const size_t PLANTED_COUNT = sizeof PLANTED / sizeof *PLANTED;

@@ -22,7 +22,7 @@ void right_sorted(const uint8_t *file, uint8_t *sorted);
 /* Whether the bytes are an index. If so, `links` is the links file that it names, of `*links_len` bytes. */
 int right_index(const uint8_t *index, size_t length, uint8_t *links, size_t *links_len);
 
-/* The reply of a question that reads an index, but for 12; done, `answer` has what C to G write. */
+/* The reply of a question that reads an index, from a window that there is, but for 12; done, `answer` has what C to G write. */
 fe_reply right_answer(const struct asked *asked, uint8_t *answer);
 
 #endif

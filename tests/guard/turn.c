@@ -1,7 +1,7 @@
 /* One call between guard pages and the check of all that it did; turn.h says what is given.
  *
  * Of every call: the reply is the right one in all four numbers, a refused call changes no lent byte, a done one changes only the first `value` bytes of its
- * buffer and the four bytes of the tally, and these to what they must be. Of a build besides: what it wrote reads back as the sorted links file, and that builds to
+ * buffer and the four bytes of its window's tally, and these to what they must be. Of a build besides: what it wrote reads back as the sorted links file, and that builds to
  * the same bytes. A reading is right if it gives the links that the bytes name and if a build of these gives the bytes again (right.h). */
 #define _POSIX_C_SOURCE 200809L
 #include "turn.h"
@@ -33,9 +33,9 @@ void turn_read(struct turn *t, const uint8_t *data, size_t size) {
     size_t at = least(size, TURN_HEAD);
     if (at) memcpy(head, data, at);
     t->call = head[0] % CALLS, t->lay = head[1], t->room = head[2] % ROOMS, t->as_card = head[3] & 1;
-    t->desk_len = head[4] % 10, t->given = (uint16_t)two(head + 5), t->tally = four(head + 7);
-    for (int i = 0; i < 4; i++) t->number[i] = four(head + 11 + 4 * i);
-    t->k = four(head + 27), t->accounts_len = head[31] % (TURN_ACCOUNTS + 1), t->edits = head[32] % (TURN_EDITS + 1);
+    t->desk_len = (uint16_t)two(head + 4), t->given = (uint16_t)two(head + 6), t->tally = four(head + 8);
+    for (int i = 0; i < 4; i++) t->number[i] = four(head + 12 + 4 * i);
+    t->k = four(head + 28), t->window = four(head + 32), t->accounts_len = head[36] % (TURN_ACCOUNTS + 1), t->edits = head[37] % (TURN_EDITS + 1);
     t->accounts_len = (uint8_t)least(t->accounts_len, size - at);
     if (t->accounts_len) memcpy(t->accounts, data + at, t->accounts_len);
     at += t->accounts_len;
@@ -49,10 +49,10 @@ void turn_read(struct turn *t, const uint8_t *data, size_t size) {
 size_t turn_write(const struct turn *t, uint8_t *data) {
     size_t at = TURN_HEAD;
     memset(data, 0, TURN_HEAD);
-    data[0] = t->call, data[1] = t->lay, data[2] = t->room, data[3] = t->as_card, data[4] = t->desk_len;
-    put_two(data + 5, t->given), put_four(data + 7, t->tally);
-    for (int i = 0; i < 4; i++) put_four(data + 11 + 4 * i, t->number[i]);
-    put_four(data + 27, t->k), data[31] = t->accounts_len, data[32] = t->edits;
+    data[0] = t->call, data[1] = t->lay, data[2] = t->room, data[3] = t->as_card;
+    put_two(data + 4, t->desk_len), put_two(data + 6, t->given), put_four(data + 8, t->tally);
+    for (int i = 0; i < 4; i++) put_four(data + 12 + 4 * i, t->number[i]);
+    put_four(data + 28, t->k), put_four(data + 32, t->window), data[36] = t->accounts_len, data[37] = t->edits;
     memcpy(data + at, t->accounts, t->accounts_len), at += t->accounts_len;
     for (int i = 0; i < t->edits; i++, at += 6) {
         data[at] = t->edit[i].kind, data[at + 1] = t->edit[i].count;
@@ -192,6 +192,7 @@ static fe_reply right(const struct asked *asked, uint8_t *result, struct met *me
         met->made++;
         return fe_build(asked->read.at, asked->read.length, result, FE_INDEX_MAX);
     }
+    if (is_question(asked->call) && asked->window >= FE_WINDOWS) return (fe_reply){13, 0, 0, 0};
     met->made++;
     if (!right_index(asked->read.at, asked->read.length, links, &links_len)) return (fe_reply){7, 0, 0, 0};
     if (asked->call != READ) return right_answer(asked, result);
@@ -222,8 +223,13 @@ static const char *there_and_back(const uint8_t *file, size_t file_len, const ui
     return NULL;
 }
 
+/* The window's tally in a desk record; of a window that there is not, some tally. */
+static uint8_t *tally_in(const struct turn *t, uint8_t *desk) {
+    return desk + 4 * (size_t)(t->window % FE_WINDOWS);
+}
+
 static void expect_desk(const struct turn *t, int answered, uint8_t *desk) {
-    if (answered && t->tally != UINT32_MAX) put_four(desk, t->tally + 1);
+    if (answered && t->tally != UINT32_MAX) put_four(tally_in(t, desk), t->tally + 1);
 }
 
 /* What changed that should not, or did not change as it should. */
@@ -245,14 +251,13 @@ static const char *replies(fe_reply found, fe_reply wanted) {
 
 const char *turn_run(library *call, const struct turn *t, struct met *met) {
     static struct bytes given;
-    static uint8_t result[LENT_MAX], buffer[LENT_MAX], accounts[TURN_ACCOUNTS];
-    uint8_t desk[16];
+    static uint8_t result[LENT_MAX], buffer[LENT_MAX], desk[LENT_MAX], accounts[TURN_ACCOUNTS];
     *met = (struct met){.call = t->call};
     given_bytes(t, &given, met);
     met->length = given.length;
 
     /* what is asked; the accounts may be a part of the index itself */
-    struct asked asked = {.call = t->call, .k = t->k, .read = {given.at, given.length}, .accounts = {accounts, t->accounts_len}};
+    struct asked asked = {.call = t->call, .k = t->k, .window = t->window, .read = {given.at, given.length}, .accounts = {accounts, t->accounts_len}};
     memcpy(asked.number, t->number, sizeof asked.number), memcpy(accounts, t->accounts, t->accounts_len);
     size_t inside = t->given % (given.length + 1);
     int is_inside = has_accounts(t->call) && t->lay & ACCOUNTS_INSIDE;
@@ -265,7 +270,7 @@ const char *turn_run(library *call, const struct turn *t, struct met *met) {
 
     /* what is lent */
     const uint8_t *before = noise + t->given;
-    memcpy(desk, before, sizeof desk), put_four(desk, t->tally);
+    memcpy(desk, before, t->desk_len < FE_DESK ? FE_DESK : t->desk_len), put_four(tally_in(t, desk), t->tally);
     struct asked lending = asked;
     lending.read = put(t, FIRST, given.at, given.length), lending.accounts = put(t, SECOND, asked.accounts.at, asked.accounts.length);
     lending.buffer = put(t, THIRD, before, room), lending.desk = put(t, DESK, desk, t->desk_len);

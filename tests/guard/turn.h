@@ -4,7 +4,7 @@
 
 #include "right.h"
 
-enum { TURN_ACCOUNTS = 80, TURN_EDITS = 6, TURN_CARD = 60000, TURN_HEAD = 34, TURN_MAX = TURN_HEAD + TURN_ACCOUNTS + 6 * TURN_EDITS + TURN_CARD };
+enum { TURN_ACCOUNTS = 80, TURN_EDITS = 6, TURN_CARD = 60000, TURN_HEAD = 38, TURN_MAX = TURN_HEAD + TURN_ACCOUNTS + 6 * TURN_EDITS + TURN_CARD };
 
 /* How long the buffer for the result is. */
 enum room { LARGE, EXACT, ONE_LESS, ONE_MORE, EMPTY, GIVEN, ROOMS };
@@ -22,9 +22,9 @@ struct edit {
 
 struct turn {
     uint8_t call, lay, room, as_card; /* as_card: the card is a links file whose index is lent, not the bytes to lend */
-    uint8_t desk_len;
-    uint16_t given;                   /* the room if it is GIVEN */
-    uint32_t tally, number[4], k;
+    uint16_t desk_len, given;         /* given: the room if it is GIVEN */
+    uint32_t number[4], k, window;
+    uint32_t tally;                   /* of the window, before the call */
     uint8_t accounts_len, edits;
     uint8_t accounts[TURN_ACCOUNTS];
     struct edit edit[TURN_EDITS];

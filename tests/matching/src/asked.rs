@@ -4,17 +4,23 @@ use crate::lent::{four_numbers, Lent, RULES};
 use reference::questions;
 use reference::random::Random;
 use reference::reply::Reply;
-use terminal::{Question, Slices};
+use terminal::{Question, Slices, DESK, WINDOWS};
 
 /// A question in the library, or in the library with a fault.
 pub type Ask = unsafe fn(&Question, &Slices) -> terminal::Reply;
 
 /// A question in the reference.
-fn reference(question: &Question, index: &[u8], answer: &mut [u8], desk: &mut [u8]) -> Reply {
+fn reference(
+    question: &Question,
+    index: &[u8],
+    answer: &mut [u8],
+    window: u32,
+    desk: &mut [u8],
+) -> Reply {
     questions::from_c(
         RULES,
         desk,
-        0,
+        window,
         &mut [],
         answer,
         |out, desk| match *question {
@@ -31,6 +37,14 @@ fn reference(question: &Question, index: &[u8], answer: &mut [u8], desk: &mut [u
     )
 }
 
+/// What a question comes with: the room for its answer, the window that asks and the desk record.
+#[derive(Clone)]
+pub struct With {
+    pub room: usize,
+    pub window: u32,
+    pub record: Vec<u8>,
+}
+
 /// What the reference gives, and the library too.
 pub struct Found {
     pub reply: terminal::Reply,
@@ -43,20 +57,22 @@ pub struct Found {
 #[derive(Default)]
 pub struct Met {
     /// By question: 0 answered, else refused by that number.
-    replies: [[usize; 13]; 7],
+    replies: [[usize; 14]; 7],
     /// By question: answered with the first value of `KINDS`, with the second, with another.
     answers: [[usize; 3]; 7],
+    /// By window: answered.
+    windows: [usize; WINDOWS as usize],
 }
 
 /// By question, the refusals that it can have.
 const REFUSALS: [&[usize]; 7] = [
-    &[7, 9, 11, 12],
-    &[7, 9, 11, 12],
-    &[7, 8, 9, 10, 12],
-    &[7, 8, 9, 12],
-    &[7, 8, 9, 12],
-    &[7, 9, 10, 11, 12],
-    &[7, 9, 10, 11, 12],
+    &[7, 9, 11, 12, 13],
+    &[7, 9, 11, 12, 13],
+    &[7, 8, 9, 10, 12, 13],
+    &[7, 8, 9, 12, 13],
+    &[7, 8, 9, 12, 13],
+    &[7, 9, 10, 11, 12, 13],
+    &[7, 9, 10, 11, 12, 13],
 ];
 
 /// By question, two values of a done reply, and what they mean. A group has three links or more.
@@ -71,12 +87,13 @@ const KINDS: [[(u32, &str); 2]; 7] = [
 ];
 
 impl Met {
-    fn add(&mut self, question: &Question, reply: terminal::Reply) {
+    fn add(&mut self, question: &Question, window: u32, reply: terminal::Reply) {
         let at = question.letter() as usize - 'A' as usize;
         self.replies[at][reply.refusal as usize] += 1;
         if reply.refusal == 0 {
             let kind = KINDS[at].iter().position(|kind| kind.0 == reply.value);
             self.answers[at][kind.unwrap_or(2)] += 1;
+            self.windows[window as usize] += 1;
         }
     }
 
@@ -88,9 +105,10 @@ impl Met {
             sum(&mut self.replies[at], &other.replies[at]);
             sum(&mut self.answers[at], &other.answers[at]);
         }
+        sum(&mut self.windows, &other.windows);
     }
 
-    /// Prints the counts. False if a reply that a question can have was never met.
+    /// Prints the counts. False if a reply that a question can have was never met, or a window never answered.
     pub fn show(&self) -> bool {
         let mut all = true;
         let asked: usize = self.replies.iter().flatten().sum();
@@ -108,7 +126,9 @@ impl Met {
                 .map(|(name, count)| format!("{name}: {count}"));
             println!("  {letter} {}", counts.collect::<Vec<_>>().join(", "));
         }
-        all
+        let least = self.windows.iter().min().expect("windows");
+        println!("  answered to each window: {least} or more");
+        all && *least > 0
     }
 }
 
@@ -139,15 +159,15 @@ impl<'a> Asker<'a> {
         }
     }
 
-    /// Puts the question with so much room and this desk record. Gives what is found, or the first difference.
-    pub fn compare(
-        &mut self,
-        question: &Question,
-        room: usize,
-        record: &[u8],
-    ) -> Result<Found, String> {
+    /// Puts the question. Gives what is found, or the first difference.
+    pub fn compare(&mut self, question: &Question, with: &With) -> Result<Found, String> {
+        let With {
+            room,
+            window,
+            record,
+        } = with;
         let mut accounts = Lent::holding(self.noise, question.accounts());
-        let mut answer = Lent::new(self.noise, room);
+        let mut answer = Lent::new(self.noise, *room);
         let mut desk = Lent::holding(self.noise, record);
         let accounts_before = accounts.bytes.clone();
         let (mut right, mut right_desk) = (answer.bytes.clone(), desk.bytes.clone());
@@ -156,23 +176,26 @@ impl<'a> Asker<'a> {
             question,
             self.bytes,
             &mut right[answer.from..answer.to],
+            *window,
             &mut right_desk[desk.from..desk.to],
         );
         let lent = Slices {
             index: self.index.lend(),
             accounts: accounts.lend(),
             answer: answer.lend(),
+            window: *window,
             desk: desk.lend(),
         };
         let reply = unsafe { (self.ask)(question, &lent) };
 
         let wanted = four_numbers(expected);
-        self.met.add(question, wanted);
+        self.met.add(question, *window, wanted);
         let fault = |what: String| {
-            let tally = &record[..record.len().min(8)];
+            let at = record.len().min(4 * (*window).min(WINDOWS) as usize);
+            let tally = &record[at..record.len().min(at + 4)];
+            let length = record.len();
             Err(format!(
-                "room {room}, desk {tally:?} of {}: {what}",
-                record.len()
+                "room {room}, window {window}, its tally {tally:?} in a desk of {length}: {what}"
             ))
         };
         if reply != wanted {
@@ -197,10 +220,14 @@ impl<'a> Asker<'a> {
         })
     }
 
-    /// Puts the question with rooms and desk records of every kind. Gives what is found where there is enough of both, or the first difference.
+    /// Puts the question with rooms, windows and desk records of every kind. Gives what is found where there is enough of each, or the first difference.
     pub fn compare_all(&mut self, question: &Question) -> Result<Found, String> {
-        let whole = whole_record(self.noise);
-        let found = self.compare(question, ROOM, &whole)?;
+        let enough = With {
+            room: ROOM,
+            window: self.noise.below(WINDOWS as usize) as u32,
+            record: whole_record(self.noise),
+        };
+        let found = self.compare(question, &enough)?;
         let length = found.answer.len();
         let rooms = match found.reply.refusal {
             0 if length == 0 => vec![0, 0],
@@ -218,50 +245,84 @@ impl<'a> Asker<'a> {
             _ => vec![0, self.noise.below(ROOM)],
         };
         for room in rooms {
-            let record = record(self.noise);
-            self.compare(question, room, &record)?;
+            let window = window(self.noise);
+            let record = record(self.noise, window);
+            let with = With {
+                room,
+                window,
+                record,
+            };
+            self.compare(question, &with)?;
         }
         Ok(found)
     }
 
-    /// Puts the questions in a row on one desk record: at the end the tally is what it was and one more for each that the library answered.
+    /// Puts the questions in a row on one desk record, from any windows, now and then with too little of it: at the end each window's tally is what it was and one
+    /// more for each of its questions that the library answered.
     pub fn in_a_row(&mut self, questions: &[Question]) -> Result<(), String> {
         let mut desk = whole_record(self.noise);
-        let before = tally(&desk);
-        let mut answered = 0;
+        let before = tallies(&desk);
+        let mut answered = [0; WINDOWS as usize];
+        // Few windows, so that some ask again.
+        let few: [u32; 4] = std::array::from_fn(|_| window(self.noise));
         for question in questions {
-            let room = self.noise.pick(&[0, 2, 4, 8, ROOM, ROOM]);
+            let lent = match self.noise.one_in(12) {
+                true => self.noise.below(DESK),
+                false => desk.len(),
+            };
+            let with = With {
+                room: self.noise.pick(&[0, 2, 4, 8, ROOM, ROOM]),
+                window: self.noise.pick(&few),
+                record: desk[..lent].to_vec(),
+            };
             let found = self
-                .compare(question, room, &desk)
+                .compare(question, &with)
                 .map_err(|text| format!("{question:?}, {text}"))?;
-            answered += u32::from(found.reply.refusal == 0);
-            desk = found.desk;
+            if found.reply.refusal == 0 {
+                answered[with.window as usize] += 1;
+            }
+            desk[..lent].copy_from_slice(&found.desk);
         }
-        let after = tally(&desk);
-        if after == before.saturating_add(answered) {
-            Ok(())
-        } else {
-            Err(format!(
-                "tally {before}, {answered} answered, tally {after}"
-            ))
+        let after = tallies(&desk);
+        match (0..WINDOWS as usize).find(|&w| after[w] != before[w].saturating_add(answered[w])) {
+            None => Ok(()),
+            Some(w) => Err(format!(
+                "window {w}: tally {}, {} answered, tally {}",
+                before[w], answered[w], after[w]
+            )),
         }
     }
 }
 
-fn tally(record: &[u8]) -> u32 {
-    let bytes = record.first_chunk().expect("a whole record");
-    u32::from_be_bytes(*bytes)
+fn tallies(record: &[u8]) -> [u32; WINDOWS as usize] {
+    let tally = |at| u32::from_be_bytes(std::array::from_fn(|byte| record[4 * at + byte]));
+    std::array::from_fn(tally)
 }
 
-/// A desk record of four to seven bytes, with a tally of every kind.
+/// A window, or in one of ten a number that is none, some of which would be one if they were cut.
+fn window(random: &mut Random) -> u32 {
+    let good = random.below(WINDOWS as usize) as u32;
+    match random.below(30) {
+        0 => random.pick(&[32, 33, 63, 64, 255, 256, 1 << 16, 1 << 31, u32::MAX]),
+        1 => good + random.pick(&[32, 64, 1 << 8, 1 << 16, 1 << 31]),
+        2 => WINDOWS.max(random.number() as u32),
+        3..6 => random.pick(&[0, 30, 31]),
+        _ => good,
+    }
+}
+
+/// A desk record with up to three bytes more than it need have, with tallies of every kind.
 fn whole_record(random: &mut Random) -> Vec<u8> {
     let top = u32::MAX;
-    let tally = match random.below(3) {
-        0 => random.number() as u32,
-        1 => random.pick(&[0, 0xFF, 0xFFFF, 0xFF_FFFF, top - 1, top]),
-        _ => top - random.below(8) as u32,
-    };
-    let mut record = tally.to_be_bytes().to_vec();
+    let mut record = Vec::new();
+    for _ in 0..WINDOWS {
+        let tally = match random.below(3) {
+            0 => random.number() as u32,
+            1 => random.pick(&[0, 0xFF, 0xFFFF, 0xFF_FFFF, top - 1, top]),
+            _ => top - random.below(8) as u32,
+        };
+        record.extend(tally.to_be_bytes());
+    }
     if random.one_in(2) {
         let more = random.number().to_be_bytes();
         record.extend(&more[..random.within(1..=3)]);
@@ -269,12 +330,14 @@ fn whole_record(random: &mut Random) -> Vec<u8> {
     record
 }
 
-/// A desk record, which may be too short or very long.
-fn record(random: &mut Random) -> Vec<u8> {
+/// A desk record, which may be very long, or too short: often by one byte, or so that it ends just with or just within the window's own tally.
+fn record(random: &mut Random, window: u32) -> Vec<u8> {
     let mut record = whole_record(random);
+    let own = 4 * window.min(WINDOWS - 1) as usize;
     match random.below(200) {
         0 => record.resize(0x1_0000 + random.below(4), 0),
-        1..50 => record.truncate(random.below(4)),
+        1..15 => record.truncate(random.below(DESK)),
+        15..50 => record.truncate(random.pick(&[0, 4, DESK - 1, own + 3, own + 4])),
         _ => {}
     }
     record

@@ -1,18 +1,19 @@
 //! Question G gone through in order: small cards whole, its faults in every combination, each room, and long chains, alone and with many of one length.
 
-use crate::asked::ROOM;
+use crate::asked::{With, ROOM};
 use crate::known::{card_b, index_of};
 use crate::limits::all_pairs;
 use reference::card::links_file;
 use reference::questions::Ends;
 use reference::random::Random;
 use terminal::Question::{self, G};
+use terminal::{DESK, WINDOWS};
 
-/// An index and questions on it, each with the room and the desk record that it is lent; with those of every kind if it has none.
+/// An index and questions on it, each with its room, window and desk record; with those of every kind if it has none.
 pub struct Lot {
     pub name: &'static str,
     pub index: Vec<u8>,
-    pub asked: Vec<(Question, Option<(usize, Vec<u8>)>)>,
+    pub asked: Vec<(Question, Option<With>)>,
 }
 
 type Pairs = Vec<(u16, u16)>;
@@ -37,7 +38,12 @@ fn cards_of_five() -> impl Iterator<Item = Lot> {
             for k in 3..=5 {
                 let turned = (second.1, second.0);
                 let question = G(ends(first), ends(turned), k);
-                asked.push((question, Some((40, vec![0; 4]))));
+                let with = With {
+                    room: 40,
+                    window: asked.len() as u32 % WINDOWS,
+                    record: vec![0; DESK],
+                };
+                asked.push((question, Some(with)));
             }
         }
         Lot {
@@ -48,15 +54,18 @@ fn cards_of_five() -> impl Iterator<Item = Lot> {
     })
 }
 
-/// Card B's index, whole and damaged: each account bad or not, k in and out of its limits, each pair a link or not, rooms and desk records around what is needed.
+/// Card B's index, whole and damaged: each account bad or not, k in and out of its limits, each pair a link or not, rooms and desk records around what is needed, the
+/// last of them from a window that there is not.
 fn faults() -> Vec<Lot> {
     const BAD: [u32; 4] = [7, 0x1_0000, 0x8000_0001, u32::MAX];
+    const FEW: [usize; 2] = [0, 32]; // the rooms of that one
     const LEVELS: [u32; 9] = [0, 2, 3, 4, 64, 65, 0x103, 0x1_0003, u32::MAX];
-    let records = [
-        vec![],
-        vec![0xFF; 3],
-        vec![0xFF; 4],
-        vec![0, 0, 0xFF, 0xFF, 7],
+    let desks = [
+        (3, vec![]),
+        (30, vec![0xFF; DESK - 1]),
+        (31, vec![0xFF; DESK]),
+        (17, [0, 0, 0xFF, 0xFF].repeat(33)),
+        (WINDOWS, vec![0; DESK]),
     ];
     let mut asked = Vec::new();
     for which in 0..16 * 4 * LEVELS.len() {
@@ -68,9 +77,17 @@ fn faults() -> Vec<Lot> {
         }
         let k = LEVELS[which / 64];
         for room in [0, 1, 2, 31, 32, 33] {
-            for record in &records {
+            for (window, record) in &desks {
+                if *window == WINDOWS && !FEW.contains(&room) {
+                    continue;
+                }
                 let question = G((four[0], four[1]), (four[2], four[3]), k);
-                asked.push((question, Some((room, record.clone()))));
+                let with = With {
+                    room,
+                    window: *window,
+                    record: record.clone(),
+                };
+                asked.push((question, Some(with)));
             }
         }
     }
@@ -87,16 +104,18 @@ fn faults() -> Vec<Lot> {
 
 /// Every room up to more than is needed, for 38 triangles and for none.
 fn rooms() -> Lot {
-    let asked = [3, 4].into_iter().flat_map(|k| {
-        let with = move |room| (G((0, 1), (38, 39), k), Some((room, vec![0xFF; 4])));
-        (0..=236).map(with)
-    });
+    let with = |room, byte| With {
+        room,
+        window: room as u32 % WINDOWS,
+        record: vec![byte; DESK + 4],
+    };
+    let at = |k, with| (G((0, 1), (38, 39), k), Some(with));
+    let asked = [3, 4].into_iter();
+    let asked = asked.flat_map(|k| (0..=236).map(move |room| at(k, with(room, 0xFF))));
     Lot {
         name: "rooms-of-chains",
         index: index_of(&links_file(40, &strip(40))),
-        asked: asked
-            .chain([(G((0, 1), (38, 39), 3), Some((ROOM, vec![0; 8])))])
-            .collect(),
+        asked: asked.chain([at(3, with(ROOM, 0))]).collect(),
     }
 }
 

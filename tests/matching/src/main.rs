@@ -1,7 +1,9 @@
 //! Matches the library's C calls against the reference, an independent program: build and reading on random, shuffled and damaged files and on files at the
-//! limits, random questions on the random indexes, good and damaged, questions with known answers, and question G gone through in order; and the lister's text.
+//! limits, random questions on the random indexes, good and damaged, questions with known answers, question G and the windows gone through in order; and the
+//! lister's text.
 //!
-//! With no word: all of it. With a number: the files and questions of that seed. With a name: that file at the limits, that known answer, or that part of G.
+//! With no word: all of it. With a number: the files and questions of that seed. With a name: that file at the limits, that known answer, or that part of what is
+//! gone through in order.
 //! The last line is `N passed, M failed`, one for each file and question compared and for each planted fault that the comparison must find.
 
 mod asked;
@@ -13,6 +15,7 @@ mod listing;
 mod planted;
 mod planted_questions;
 mod questions;
+mod windows;
 
 use std::process::ExitCode;
 
@@ -229,15 +232,16 @@ fn known_answers(count: &mut Count, only: Option<&str>) {
     }
 }
 
-/// Question G gone through in order. On an index, those after a failure are left out.
-fn chains(count: &mut Count, only: Option<&str>) {
+/// Question G and the windows gone through in order. On an index, those after a failure are left out.
+fn in_order(count: &mut Count, only: Option<&str>) {
     let wanted = |name: &str| only.is_none_or(|only| only == name);
-    for lot in chains::all().filter(|lot| wanted(lot.name)) {
+    let lots = chains::all().chain(windows::all());
+    for lot in lots.filter(|lot| wanted(lot.name)) {
         let mut noise = Random::new(lot.index.len() as u64);
         let mut asker = Asker::new(terminal::ask, &mut noise, &lot.index);
-        for (question, lent) in &lot.asked {
-            let found = match lent {
-                Some((room, record)) => asker.compare(question, *room, record),
+        for (question, with) in &lot.asked {
+            let found = match with {
+                Some(with) => asker.compare(question, with),
                 None => asker.compare_all(question),
             };
             let failed = found.is_err();
@@ -258,7 +262,7 @@ fn main() -> ExitCode {
             planted_faults(&mut count);
             at_the_limits(&mut count, None);
             known_answers(&mut count, None);
-            chains(&mut count, None);
+            in_order(&mut count, None);
             (0..SEEDS).for_each(|number| seed(&mut count, number));
             println!(
                 "links files accepted, and refused by 1 to 6: {:?}",
@@ -275,7 +279,7 @@ fn main() -> ExitCode {
             Err(_) => {
                 at_the_limits(&mut count, Some(&word));
                 known_answers(&mut count, Some(&word));
-                chains(&mut count, Some(&word));
+                in_order(&mut count, Some(&word));
             }
         },
     }

@@ -1,11 +1,15 @@
 //! The calls of include/footballelm.h, as a C host makes them.
 
 /// So many requests of document 02 are in the library; the reference goes by this number.
-pub const REQUESTS: u8 = 1;
+pub const REQUESTS: u8 = 3;
 
 /// FE_INDEX_MAX, and FE_CHAIN_MAX, which is enough for any answer.
 pub const INDEX_MAX: usize = 40_960;
 pub const ANSWER_MAX: usize = 6_140;
+
+/// FE_WINDOWS, and FE_DESK, the bytes of a desk record that the calls use.
+pub const WINDOWS: u32 = 32;
+pub const DESK: usize = 128;
 
 #[repr(C)]
 #[derive(Clone, Copy, Debug, PartialEq, Eq)]
@@ -27,6 +31,7 @@ extern "C" {
         index_len: usize,
         a: u32,
         b: u32,
+        window: u32,
         desk: *mut u8,
         desk_len: usize,
     ) -> Reply;
@@ -37,6 +42,7 @@ extern "C" {
         b: u32,
         c: u32,
         d: u32,
+        window: u32,
         desk: *mut u8,
         desk_len: usize,
     ) -> Reply;
@@ -48,6 +54,7 @@ extern "C" {
         k: u32,
         answer: *mut u8,
         answer_len: usize,
+        window: u32,
         desk: *mut u8,
         desk_len: usize,
     ) -> Reply;
@@ -58,6 +65,7 @@ extern "C" {
         accounts_len: usize,
         answer: *mut u8,
         answer_len: usize,
+        window: u32,
         desk: *mut u8,
         desk_len: usize,
     ) -> Reply;
@@ -68,6 +76,7 @@ extern "C" {
         accounts_len: usize,
         answer: *mut u8,
         answer_len: usize,
+        window: u32,
         desk: *mut u8,
         desk_len: usize,
     ) -> Reply;
@@ -79,6 +88,7 @@ extern "C" {
         k: u32,
         answer: *mut u8,
         answer_len: usize,
+        window: u32,
         desk: *mut u8,
         desk_len: usize,
     ) -> Reply;
@@ -92,6 +102,7 @@ extern "C" {
         k: u32,
         answer: *mut u8,
         answer_len: usize,
+        window: u32,
         desk: *mut u8,
         desk_len: usize,
     ) -> Reply;
@@ -142,12 +153,13 @@ impl Question {
 /// A slice as C is lent it: where it begins and how long it is.
 pub type Slice = (*mut u8, usize);
 
-/// What a question is lent. Only C, D and E take accounts; A and B take no answer.
+/// What a question is lent, and the window that asks. Only C, D and E take accounts; A and B take no answer.
 #[derive(Clone, Copy)]
 pub struct Slices {
     pub index: Slice,
     pub accounts: Slice,
     pub answer: Slice,
+    pub window: u32,
     pub desk: Slice,
 }
 
@@ -160,26 +172,28 @@ pub unsafe fn ask(question: &Question, lent: &Slices) -> Reply {
         index: (i, m),
         accounts: (v, n),
         answer: (o, r),
+        window: w,
         desk: (t, s),
     } = *lent;
     match *question {
-        Question::A((a, b)) => fe_strength(i, m, a, b, t, s),
-        Question::B((a, b), (c, d)) => fe_joined(i, m, a, b, c, d, t, s),
-        Question::C(_, k) => fe_groups_at(i, m, v, n, k, o, r, t, s),
-        Question::D(_) => fe_strongest_groups(i, m, v, n, o, r, t, s),
-        Question::E(_) => fe_all_groups(i, m, v, n, o, r, t, s),
-        Question::F((a, b), k) => fe_group_links(i, m, a, b, k, o, r, t, s),
-        Question::G((a, b), (c, d), k) => fe_chain(i, m, a, b, c, d, k, o, r, t, s),
+        Question::A((a, b)) => fe_strength(i, m, a, b, w, t, s),
+        Question::B((a, b), (c, d)) => fe_joined(i, m, a, b, c, d, w, t, s),
+        Question::C(_, k) => fe_groups_at(i, m, v, n, k, o, r, w, t, s),
+        Question::D(_) => fe_strongest_groups(i, m, v, n, o, r, w, t, s),
+        Question::E(_) => fe_all_groups(i, m, v, n, o, r, w, t, s),
+        Question::F((a, b), k) => fe_group_links(i, m, a, b, k, o, r, w, t, s),
+        Question::G((a, b), (c, d), k) => fe_chain(i, m, a, b, c, d, k, o, r, w, t, s),
     }
 }
 
-/// Puts the question with its own accounts.
+/// Puts the question from window 0 with its own accounts.
 pub fn put(question: &Question, index: &[u8], answer: &mut [u8], desk: &mut [u8]) -> Reply {
     let accounts = question.accounts();
     let lent = Slices {
         index: (index.as_ptr().cast_mut(), index.len()),
         accounts: (accounts.as_ptr().cast_mut(), accounts.len()),
         answer: (answer.as_mut_ptr(), answer.len()),
+        window: 0,
         desk: (desk.as_mut_ptr(), desk.len()),
     };
     unsafe { ask(question, &lent) }
