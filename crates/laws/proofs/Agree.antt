@@ -32,7 +32,7 @@ use Rattle.laws.proofs.Stored.{groupCount, few-groups, stored-is}
 use Rattle.laws.proofs.Tree.{tree-joined, joined-tree, rows-length, row-at}
 use Rattle.laws.proofs.ForestPaths.{forest-joined, joined-forest}
 use Rattle.laws.proofs.Ordering.{sort-unique}
-use Rattle.laws.proofs.Accepted.{Named, graph-in, in-graph, graph-size, graph-proper, links-distinct}
+use Rattle.laws.proofs.Accepted.{GoodPairs, Named, graph-in, in-graph, graph-size, graph-proper, links-distinct}
 use Rattle.laws.proofs.Decoding.{IndexFits, LinkRowFits, JoinFits, GroupRowFits, decode-encode}
 
 -- ---- the fields of an index fit two bytes
@@ -182,11 +182,11 @@ module _ (n : ℕ) (ps : List Pair) (named : Named n ps) where
 -- ---- the index tells the graph
 
 -- the same pairs give the same graph
-same-graph : (n n′ : ℕ) (ps ps′ : List Pair) → Named n ps → Named n′ ps′ → SameGraph n ps n′ ps′ → graphOf n ps ≡ graphOf n′ ps′
+pub same-graph : (n n′ : ℕ) (ps ps′ : List Pair) → GoodPairs n ps → GoodPairs n′ ps′ → SameGraph n ps n′ ps′ → graphOf n ps ≡ graphOf n′ ps′
 unfolding graphOf linksOf
 same-graph n n′ ps ps′ a b same =
     let links : sort linkBefore (map linkOf ps) ≡ sort linkBefore (map linkOf ps′) =
-    sort-unique (map linkOf ps) (map linkOf ps′) (links-distinct n ps (a .good)) (links-distinct n′ ps′ (b .good))
+    sort-unique (map linkOf ps) (map linkOf ps′) (links-distinct n ps a) (links-distinct n′ ps′ b)
     (λ e m. member-in (map linkOf ps′) e (same .same-pairs e .0 (in-member (map linkOf ps) m)))
     (λ e m. member-in (map linkOf ps) e (same .same-pairs e .1 (in-member (map linkOf ps′) m))) in
     λ i. record { n = same .same-accounts i; links = links i }
@@ -223,4 +223,4 @@ same-bytes n n′ ps ps′ a b = (to, back)
             ∙ index-links (graphOf n′ ps′) (proper n′ ps′ b) (few-links n′ ps′ b)
 
     back : SameGraph n ps n′ ps′ → indexBytes (graphOf n ps) ≡ indexBytes (graphOf n′ ps′)
-    back s = ap indexBytes (same-graph n n′ ps ps′ a b s)
+    back s = ap indexBytes (same-graph n n′ ps ps′ (a .good) (b .good) s)

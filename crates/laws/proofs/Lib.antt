@@ -56,3 +56,5 @@ pub mod ShortestRoom
 -- tallies over a run of questions; the window, the record as bytes
 pub mod Run
 pub mod Windows
+-- a link put in or withdrawn, and any sequence of changes
+pub mod Changes

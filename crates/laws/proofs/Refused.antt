@@ -3,11 +3,13 @@ use mathlib.Core.Path.{_≡_, refl}
 use mathlib.Core.Logic.{_≢_}
 use mathlib.Core.List.{List}
 use Prim.Native.Nat.{ℕ}
-use Rattle.truss.specs.Refusal.{Checked, passed, refused, mapPassed}
+use Rattle.truss.specs.Refusal.{Checked, passed, refused, andThen, mapPassed}
 use Rattle.truss.specs.LinksFile.{readLinks, readBack}
+use Rattle.truss.specs.Index.{indexBytes}
 use Rattle.truss.specs.IndexFile.{readIndex}
-use Rattle.truss.specs.Question.{Question, Answer}
+use Rattle.truss.specs.Question.{Answer}
 use Rattle.truss.specs.Call.{write, checkRoom, indexOf, build, read, settle, settleBytes, checkedAnswer, checkWindow, checkDesk, ask, askBytes}
+use Rattle.truss.specs.Change.{altered, change}
 use Rattle.truss.specs.Kept.{RefusalKeeps}
 
 written-kept : (x : Checked (List ℕ)) (buffer : List ℕ) → write x buffer .reply .refusal ≢ 0 → write x buffer .buffer ≡ buffer
@@ -29,10 +31,11 @@ settled-bytes-kept (refused r) buffer w desk ne = (refl, refl)
 
 -- "no refused call changes an answer buffer or the tally"
 pub refusal-keeps : RefusalKeeps
-unfolding build read ask askBytes
+unfolding build read ask askBytes change
 refusal-keeps = record {
   build = λ file buffer. written-kept (checkRoom (mapPassed indexOf (readLinks file)) buffer) buffer;
   read = λ bytes buffer. written-kept (checkRoom (mapPassed readBack (readIndex bytes)) buffer) buffer;
   ask = λ bytes q buffer w. settled-kept (checkWindow w (checkedAnswer bytes q buffer)) buffer w;
   ask-bytes = λ bytes q buffer w desk. settled-bytes-kept (checkWindow w (checkDesk (checkedAnswer bytes q buffer) desk)) buffer w desk;
+  change = λ c bytes buffer. written-kept (checkRoom (mapPassed indexBytes (andThen (readIndex bytes) (altered c))) buffer) buffer;
 }

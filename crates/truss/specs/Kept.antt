@@ -5,6 +5,7 @@ use mathlib.Core.List.{List}
 use Prim.Native.Nat.{ℕ}
 use Rattle.truss.specs.Question.{Question}
 use Rattle.truss.specs.Call.{build, read, ask, askBytes}
+use Rattle.truss.specs.Change.{Change, change}
 
 -- "All lent memory keeps its bytes": where the reply is a refusal, the buffer and the desk record are as they were lent
 pub record RefusalKeeps : Type 0 where
@@ -14,3 +15,5 @@ pub record RefusalKeeps : Type 0 where
       → (ask bytes q buffer w tallies .buffer ≡ buffer) × (ask bytes q buffer w tallies .tallies ≡ tallies)
   pub ask-bytes : (bytes : List ℕ) (q : Question) (buffer : List ℕ) (w : ℕ) (desk : List ℕ) → askBytes bytes q buffer w desk .reply .refusal ≢ 0
       → (askBytes bytes q buffer w desk .buffer ≡ buffer) × (askBytes bytes q buffer w desk .desk ≡ desk)
+  -- "a refused change leaves both buffers"; the first is lent to read
+  pub change : (c : Change) (bytes buffer : List ℕ) → change c bytes buffer .reply .refusal ≢ 0 → change c bytes buffer .buffer ≡ buffer

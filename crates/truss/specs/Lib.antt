@@ -18,6 +18,7 @@ pub mod IndexFile
 -- questions, whole calls, the two programs' text
 pub mod Question
 pub mod Call
+pub mod Change
 pub mod Listing
 -- what a refused call leaves; what question G answers; the window, the record as bytes, tallies over a run of questions
 pub mod Kept
@@ -27,11 +28,14 @@ pub mod Run
 -- demand 3
 pub mod Stored
 pub mod Demand3
+-- a link put in or withdrawn, and any sequence of changes
+pub mod Changes
 -- the worked cases; the statements spelled out
 pub mod Cards
 pub mod Cases
 pub mod ChainCases
 pub mod WholeCalls
 pub mod DeskCases
+pub mod ChangeCases
 pub mod Figures
 pub mod Spelled

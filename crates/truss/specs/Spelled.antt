@@ -1,26 +1,31 @@
 -- Demand 3 in plain words of the definitions: what it says of any files, links and levels, whatever memory was lent; what question G answers (Ways); what the
--- window and the record as bytes have to do with a question (Windows); and tallies over a run (Run). A hypothesis more in one of them, or a conclusion less, fails here; no law fails at it, since the law that is left is weaker and true.
-use mathlib.Core.Path.{_≡_}
+-- window and the record as bytes have to do with a question (Windows); tallies over a run (Run); and links that come and go (Changes). A hypothesis more in one of them, or a conclusion less, fails here; no law fails at it, since the law that is left is weaker and true.
+use mathlib.Core.Path.{_≡_, refl}
 use mathlib.Core.Logic.{_⊎_, inl, inr, _↔_, _≢_}
-use mathlib.Core.Bool.{true, false, cond}
+use mathlib.Core.Bool.{true, false, cond, not, _&&_, _||_}
 use mathlib.Core.List.{List, [], _∷_, _++_, map}
 use mathlib.Core.List.{List·Memᴰ as In}
 use Prim.Native.Nat.{ℕ, _+_, _≤_, _<_, min}
 use lib.Dec.{eqb}
 use lib.ListN.{length, getD, take}
-use Rattle.truss.specs.Limits.{minLevel, maxLevel, maxChainBytes}
-use Rattle.truss.specs.Graph.{Link, Pair, Triangle, Has, linkOf, graphOf, member}
+use Rattle.truss.specs.Limits.{maxLinks, minLevel, maxLevel, maxChainBytes}
+use Rattle.truss.specs.Graph.{Link, LinkSet, Pair, Graph, Triangle, Has, link, sameLink, linkOf, graphOf, member}
 use Rattle.truss.specs.Chain.{AtLeast, StrongTriangle, Joined}
 use Rattle.truss.specs.Shortest.{IsShortestFirst, triangleBefore, shortestChain}
+use Rattle.truss.specs.Refusal.{passed, refuse}
 use Rattle.truss.specs.LinksFile.{accepted, readLinks}
 use Rattle.truss.specs.Index.{decode, indexBytes}
+use Rattle.truss.specs.IndexFile.{readIndex}
 use Rattle.truss.specs.Question.{Question, chain}
-use Rattle.truss.specs.Call.{answerBytes, build, done, ask, askBytes, tallyAt}
+use Rattle.truss.specs.Call.{Written, answerBytes, build, done, ask, askBytes, tallyAt}
 use Rattle.truss.specs.Stored.{ForestConnects, TreeHolds}
 use Rattle.truss.specs.Demand3.{Builds, AllOrNone, Demand3, OnlyShortMemory}
+use Rattle.truss.specs.Kept.{RefusalKeeps}
 use Rattle.truss.specs.Ways.{Ways}
 use Rattle.truss.specs.Windows.{refusedBy, recordOf, WindowRule, RecordRule}
 use Rattle.truss.specs.Run.{Seen, Run, ownAnswered, Asks, RunTallies, AsksBytes, RunRecord}
+use Rattle.truss.specs.Change.{Change, put-in, withdraw, change}
+use Rattle.truss.specs.Changes.{Tells, moved, Faulty, put-outside, put-equal, put-again, put-full, withdraw-outside, withdraw-none, ChangeRule, Changes, none, one, Changed, ChangesTell}
 
 pub record Spelled : Type 0 where
   same-index : Demand3 → (file file′ : List ℕ) (n n′ : ℕ) (ps ps′ : List Pair) (b b′ lent lent′ : List ℕ)
@@ -59,12 +64,52 @@ pub record Spelled : Type 0 where
   short-record : RecordRule → (bytes : List ℕ) (q : Question) (buffer : List ℕ) (w : ℕ) (tallies desk : List ℕ) → length desk < 128
       → askBytes bytes q buffer w desk
       ≡ record { reply = cond (eqb (ask bytes q buffer w tallies .reply .refusal) 0) (refusedBy 12) (ask bytes q buffer w tallies .reply); buffer = buffer; desk = desk }
+  change-7 : ChangeRule → (c : Change) (bytes buffer : List ℕ) → readIndex bytes ≡ refuse 7 0 → change c bytes buffer ≡ record { reply = refusedBy 7; buffer = buffer }
+  change-9 : ChangeRule → (bytes buffer : List ℕ) (G : Graph) (a b : ℕ) → readIndex bytes ≡ passed G → (G .n ≤ a) ⊎ (G .n ≤ b)
+      → (change (put-in a b) bytes buffer ≡ record { reply = refusedBy 9; buffer = buffer }) × (change (withdraw a b) bytes buffer ≡ record { reply = refusedBy 9; buffer = buffer })
+  change-5 : ChangeRule → (bytes buffer : List ℕ) (G : Graph) (a b : ℕ) → readIndex bytes ≡ passed G → a < G .n → b < G .n → a ≡ b
+      → change (put-in a b) bytes buffer ≡ record { reply = refusedBy 5; buffer = buffer }
+  change-14 : ChangeRule → (bytes buffer : List ℕ) (G : Graph) (a b : ℕ) → readIndex bytes ≡ passed G → a < G .n → b < G .n → a ≢ b → member (G .links) (link a b) ≡ true
+      → change (put-in a b) bytes buffer ≡ record { reply = refusedBy 14; buffer = buffer }
+  change-3 : ChangeRule → (bytes buffer : List ℕ) (G : Graph) (a b : ℕ) → readIndex bytes ≡ passed G → a < G .n → b < G .n → a ≢ b → member (G .links) (link a b) ≡ false
+      → maxLinks ≤ length (G .links) → change (put-in a b) bytes buffer ≡ record { reply = refusedBy 3; buffer = buffer }
+  change-11 : ChangeRule → (bytes buffer : List ℕ) (G : Graph) (a b : ℕ) → readIndex bytes ≡ passed G → a < G .n → b < G .n → member (G .links) (link a b) ≡ false
+      → change (withdraw a b) bytes buffer ≡ record { reply = refusedBy 11; buffer = buffer }
+  -- two files: the second names what the first names and one pair more, and one pair less
+  put-in-built : ChangeRule → (file file′ buffer : List ℕ) (n : ℕ) (ps ps′ : List Pair) (a b : ℕ) → readLinks file ≡ accepted n ps → readLinks file′ ≡ accepted n ps′
+      → member (map linkOf ps) (link a b) ≡ false
+      → ((e : Link) → (member (map linkOf ps′) e ≡ true) ↔ ((member (map linkOf ps) e || sameLink e (link a b)) ≡ true))
+      → change (put-in a b) (indexBytes (graphOf n ps)) buffer ≡ build file′ buffer
+  withdraw-built : ChangeRule → (file file′ buffer : List ℕ) (n : ℕ) (ps ps′ : List Pair) (a b : ℕ) → readLinks file ≡ accepted n ps → readLinks file′ ≡ accepted n ps′
+      → member (map linkOf ps) (link a b) ≡ true
+      → ((e : Link) → (member (map linkOf ps′) e ≡ true) ↔ ((member (map linkOf ps) e && not (sameLink e (link a b))) ≡ true))
+      → change (withdraw a b) (indexBytes (graphOf n ps)) buffer ≡ build file′ buffer
+  change-only : ChangeRule → (c : Change) (bytes buffer : List ℕ) (G : Graph) → readIndex bytes ≡ passed G
+      → ((k : ℕ) × Faulty G c k)
+      ⊎ ((file : List ℕ) × (ps : List Pair) × (readLinks file ≡ accepted (G .n) ps) × ((e : Link) → (member (map linkOf ps) e ≡ true) ↔ (moved c (member (G .links)) e ≡ true)) × (change c bytes buffer ≡ build file buffer))
+  tells-links : ChangeRule → (b : List ℕ) (n : ℕ) (S : LinkSet) → Tells b n S → (G : Graph) × (readIndex b ≡ passed G) × (G .n ≡ n) × ((e : Link) → member (G .links) e ≡ S e)
+  tells-built : ChangeRule → (b file : List ℕ) (n : ℕ) (ps : List Pair) (S : LinkSet) → Tells b n S → readLinks file ≡ accepted n ps → ((e : Link) → (member (map linkOf ps) e ≡ true) ↔ (S e ≡ true))
+      → Builds file b
+  index-tells : ChangeRule → (b : List ℕ) (G : Graph) → readIndex b ≡ passed G → Tells b (G .n) (member (G .links))
+  -- what a sequence is made of: nothing more is asked of a step than that the change was called, and a step leaves what its reply says
+  no-step : (x : List ℕ) (S : LinkSet) → Changes Changed x S x S
+  any-step : (c : Change) (x buffer y : List ℕ) (w : Written) (S T : LinkSet) → w ≡ change c x buffer
+      → Changes Changed (cond (eqb (w .reply .refusal) 0) (take (w .reply .value) (w .buffer)) x) (cond (eqb (w .reply .refusal) 0) (moved c S) S) y T → Changes Changed x S y T
+  put-in-set : (a b : ℕ) (S : LinkSet) (e : Link) → moved (put-in a b) S e ≡ (S e || sameLink e (link a b))
+  withdrawn-set : (a b : ℕ) (S : LinkSet) (e : Link) → moved (withdraw a b) S e ≡ (S e && not (sameLink e (link a b)))
+  refused-change : RefusalKeeps → (c : Change) (bytes buffer : List ℕ) → change c bytes buffer .reply .refusal ≢ 0 → change c bytes buffer .buffer ≡ buffer
+  sequence-tells : ChangesTell → (b x : List ℕ) (G : Graph) (T : LinkSet) → readIndex b ≡ passed G → Changes Changed b (member (G .links)) x T → Tells x (G .n) T
 
 alike : {A B C : Type 0} → AllOrNone A B C → (A ↔ B) × (A ↔ C)
 alike (inl (a, b, c)) = ((λ _. b, λ _. a), (λ _. c, λ _. a))
 alike (inr (na, nb, nc)) = ((λ a. absurd (na a), λ b. absurd (nb b)), (λ a. absurd (na a), λ c. absurd (nc c)))
 
+-- the index of an accepted file tells what the file names
+told : (file : List ℕ) (n : ℕ) (ps : List Pair) → readLinks file ≡ accepted n ps → Tells (indexBytes (graphOf n ps)) n (member (map linkOf ps))
+told file n ps h = record { pairs = ps; is-index = record { file = file; file-accepted = h; bytes = refl }; names = λ e. (λ m. m, λ m. m) }
+
 pub spelled : Spelled
+unfolding moved
 spelled = record {
   same-index = λ d file file′ n n′ ps ps′ b b′ lent lent′ h r w h′ r′ w′.
       let s = d file file′ n n′ ps ps′ b b′ h h′ (record { lent = lent; not-refused = r; written = w }) (record { lent = lent′; not-refused = r′; written = w′ }) .same-index in
@@ -82,4 +127,22 @@ spelled = record {
   any-window = λ r. r .within;
   record-of-tallies = λ r. r .whole;
   short-record = λ r. r .short;
+  change-7 = λ r. r .no-index;
+  change-9 = λ r bytes buffer G a b h o. (r .faulty (put-in a b) bytes buffer G 9 h (put-outside o), r .faulty (withdraw a b) bytes buffer G 9 h (withdraw-outside o));
+  change-5 = λ r bytes buffer G a b h la lb q. r .faulty (put-in a b) bytes buffer G 5 h (put-equal la lb q);
+  change-14 = λ r bytes buffer G a b h la lb ne m. r .faulty (put-in a b) bytes buffer G 14 h (put-again la lb ne m);
+  change-3 = λ r bytes buffer G a b h la lb ne m f. r .faulty (put-in a b) bytes buffer G 3 h (put-full la lb ne m f);
+  change-11 = λ r bytes buffer G a b h la lb m. r .faulty (withdraw a b) bytes buffer G 11 h (withdraw-none la lb m);
+  put-in-built = λ r file file′ buffer n ps ps′ a b h h′ m s. r .puts a b (indexBytes (graphOf n ps)) buffer file′ n ps′ (member (map linkOf ps)) (told file n ps h) m h′ s;
+  withdraw-built = λ r file file′ buffer n ps ps′ a b h h′ m s. r .withdraws a b (indexBytes (graphOf n ps)) buffer file′ n ps′ (member (map linkOf ps)) (told file n ps h) m h′ s;
+  change-only = λ r. r .only;
+  tells-links = λ r. r .tells-passed;
+  tells-built = λ r. r .tells-built;
+  index-tells = λ r. r .passed-tells;
+  no-step = λ x S. none;
+  any-step = λ c x buffer y w S T k R. one c buffer w k R;
+  put-in-set = λ a b S e. refl;
+  withdrawn-set = λ a b S e. refl;
+  refused-change = λ k. k .change;
+  sequence-tells = λ r. r;
 }

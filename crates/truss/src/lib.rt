@@ -3,11 +3,12 @@ ghost use Rattle.truss.specs.Cases.{Cases, RuleCases, WindowCases, Field
 ghost use Rattle.truss.specs.ChainCases.{ChainCases};
 ghost use Rattle.truss.specs.WholeCalls.{WholeCalls};
 ghost use Rattle.truss.specs.DeskCases.{DeskCases};
+ghost use Rattle.truss.specs.ChangeCases.{ChangeCases};
 ghost use Rattle.truss.specs.Figures.{Figures};
 ghost use Rattle.truss.specs.Spelled.{Spelled};
 
 pub fn definitions()
-    ensures { λ _. ⌜ Cases × RuleCases × WindowCases × FieldCases × ChainCases × WholeCalls × DeskCases × Figures × Spelled ⌝ }
+    ensures { λ _. ⌜ Cases × RuleCases × WindowCases × FieldCases × ChainCases × WholeCalls × DeskCases × ChangeCases × Figures × Spelled ⌝ }
 {
     return;
 }
