@@ -6,13 +6,12 @@ use Prim.Native.Nat.{ℕ, _+_, _*_, _≤_, _<_}
 use native.Mathlib.Omega.{arith}
 use lib.ListN.{length, getD, List·getD-append}
 use lib.Seq.{getD-at}
-use Rattle.truss.specs.Limits.{maxAccounts}
 use Rattle.truss.specs.Record.{fieldAt}
 use Rattle.truss.specs.Graph.{Link, Graph, link, linkAt}
 use Rattle.laws.proofs.Numbers.{same-or-not}
 use Rattle.laws.proofs.Groups.{size, strengthAt}
 use Rattle.laws.proofs.InOrder.{graph-in-order}
-use Rattle.laws.proofs.Sides.{InOrder, ends-below, ends-order}
+use Rattle.laws.proofs.Sides.{InOrder}
 use Rattle.columns.specs.Columns.{cell, store, KEY, HALF, COLUMNS, linkBound}
 use Rattle.columns.specs.Laws.{stored, kept-entry, kept-column, length-store}
 use Rattle.index.specs.Open.{pairsIn}
@@ -22,13 +21,6 @@ use Rattle.chain.specs.Strong.{strongOf, strongTo, strong-none, strong-a
 
 pub index-order : {s : List ℕ} → IsIndex s → InOrder (graphIn s)
 index-order {s} I = graph-in-order (fieldAt s 1) (pairsIn s (fieldAt s 3)) (I .accepted .good)
-
--- the accounts of a link are small
-pub ends-small : {s : List ℕ} → IsIndex s → (i : ℕ) → i < size (graphIn s) → (linkAt (graphIn s) i .lo < maxAccounts) × (linkAt (graphIn s) i .hi < maxAccounts)
-ends-small {s} I i l =
-    let h = ends-below (graphIn s) (index-order I) i l in
-    let b = ends-order (graphIn s) (index-order I) i l in
-    (omega (arith, h, b, few-accounts I), omega (arith, h, few-accounts I))
 
 -- a link's key
 abbrev pub linkKey : Link → ℕ

@@ -7,11 +7,9 @@ ghost use Rattle.columns.specs.Columns.{COLUMNS};
 ghost use Rattle.stored.specs.Rows.{IsIndex, graphIn};
 ghost use Rattle.chain.specs.Strong.{strongOf};
 ghost use Rattle.chain.specs.Load.{LoadPre, LoadGives, KeepGives, OneIf};
-use columns::HALF;
 use columns::KEY;
 use columns::put;
-use stored::rows::link_higher;
-use stored::rows::link_lower;
+use stored::rows::link_key;
 use stored::rows::link_strength;
 
 // 1 if link i is one of them, else 0.
@@ -49,9 +47,7 @@ fn load_link(s: &[u8], w: &mut [u32], h: usize, k: usize, i: usize, j: usize) ->
     if link_strength(s, i) < k {
         return j;
     }
-    let a = link_lower(s, i);
-    let b = link_higher(s, i);
-    put(w, h, KEY, j, a * HALF + b);
+    put(w, h, KEY, j, link_key(s, i));
     j + 1
 }
 

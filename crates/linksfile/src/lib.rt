@@ -72,7 +72,7 @@ pub fn read_head(s: &[u8], kind: u8) -> FileHead
 }
 
 // A pair as one number, the lower account first.
-fn key_of(a: usize, b: usize) -> usize
+pub fn key_of(a: usize, b: usize) -> usize
     requires { ⌜ a < 65536 ⌝ }
     requires { ⌜ b < 65536 ⌝ }
     ensures { λ r. ⌜ r ≡ keyOf (link a b) ⌝ }

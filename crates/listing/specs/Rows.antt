@@ -1,5 +1,5 @@
 -- What the functions that count ask and give, and the rows. Assumes nothing.
-use mathlib.Core.Path.{_≡_, refl, sym, ap, ap₂, _∙_, subst}
+use mathlib.Core.Path.{_≡_, refl, sym, ap, _∙_, subst}
 use mathlib.Core.Logic.{_⊎_, inl, inr, _≢_}
 use mathlib.Core.Bool.{Bool}
 use mathlib.Core.List.{List, [], _∷_, _++_, map}
@@ -15,15 +15,13 @@ use Rattle.truss.specs.Lists.{count as howMany}
 use Rattle.truss.specs.Graph.{Graph, linkAt, link}
 use Rattle.truss.specs.Group.{groups, leastLink}
 use Rattle.truss.specs.Refusal.{passed, refuse, andThen, mapPassed}
-use Rattle.truss.specs.Record.{fieldAt}
 use Rattle.truss.specs.Index.{GroupRow, groupRow}
 use Rattle.truss.specs.IndexFile.{readIndex}
 use Rattle.truss.specs.Listing.{Row, row, rows}
 use Rattle.truss.specs.Call.{done, write, checkRoom}
 use Rattle.laws.proofs.Numbers.{same-or-not}
-use Rattle.laws.proofs.Members.{number-lt, first-in, in-member, getD-in, range-length}
+use Rattle.laws.proofs.Members.{number-lt, first-in, range-length}
 use Rattle.laws.proofs.Sets.{map-at, map-range-at}
-use Rattle.laws.proofs.Size.{index-room}
 use Rattle.laws.proofs.Tree.{group-row-at}
 use Rattle.laws.proofs.Groups.{size}
 use Rattle.laws.proofs.Stored.{groupCount, noSuchGroup, stored, stored-at, stored-in}
@@ -37,8 +35,7 @@ use Rattle.wire.specs.Writing.{written, written-start, written-length, upTo, up
 use Rattle.index.specs.declared.Reply.{Reply as CReply}
 use Rattle.index.specs.Build.{replyIn, replied, Replies, reply-same, reply-with}
 use Rattle.index.specs.Open.{Opened}
-use Rattle.stored.specs.Rows.{graphIn, IsIndex, Shape, parentOf, proper, fits-groups, few, few-links, few-accounts, parent-cases, opened-index, opened-graph, opened-shape, Sized, shape-sized, sized-few}
-use Rattle.stored.specs.Rows.{long as whole-length}
+use Rattle.stored.specs.Rows.{graphIn, keyAt, IsIndex, Shape, parentOf, proper, fits-groups, few, few-links, few-accounts, parent-cases, opened-index, opened-graph, opened-shape, Sized, shape-sized, sized-few}
 use Rattle.listing.specs.Touching.{UpGiven, Both, both-none, both-then, Small}
 use Rattle.listing.specs.Counting.{memberOf, holdsOf, how-few, Rounds, rounds-none, group-length, RoundState, both-kept, accounts-more}
 
@@ -52,23 +49,15 @@ pub record KeysFrom (b : List ℕ) (m i : ℕ) (w : List ℕ) : Type 0 where
 pub keys-none : {b : List ℕ} {m : ℕ} {w : List ℕ} → length w ≡ COLUMNS * m → KeysFrom b m 0 w
 keys-none q = record { size-is = q; keys = λ j l. absurd (omega arith) }
 
-pub keys-more : {b : List ℕ} {m i x y : ℕ} {w w′ : List ℕ} → i < m → KeysFrom b m i w → x ≡ linkAt (graphIn b) i .lo → y ≡ linkAt (graphIn b) i .hi → w′ ≡ store w m 0 i (x * 65536 + y) → KeysFrom b m (i + 1) w′
-keys-more {b} {m} {i} {x} {y} {w} {w′} l K p q u = rw u (record { size-is = length-store w m 0 i (x * 65536 + y) ∙ K .size-is; keys = λ j h. go j h (same-or-not j i) })
+pub keys-more : {b : List ℕ} {m i x : ℕ} {w w′ : List ℕ} → i < m → KeysFrom b m i w → x ≡ keyAt (graphIn b) i → w′ ≡ store w m 0 i x → KeysFrom b m (i + 1) w′
+keys-more {b} {m} {i} {x} {w} {w′} l K q u = rw u (record { size-is = length-store w m 0 i x ∙ K .size-is; keys = λ j h. go j h (same-or-not j i) })
   where
-    U : Rattle.columns.specs.Laws.Upd m (cell w m 0) (cell (store w m 0 i (x * 65536 + y)) m 0) i (x * 65536 + y)
-    U = upd-store w m 0 i (x * 65536 + y) (omega arith) l (K .size-is)
+    U : Rattle.columns.specs.Laws.Upd m (cell w m 0) (cell (store w m 0 i x) m 0) i x
+    U = upd-store w m 0 i x (omega arith) l (K .size-is)
 
-    go : (j : ℕ) → j < i + 1 → (j ≡ i) ⊎ (j ≢ i) → cell (store w m 0 i (x * 65536 + y)) m 0 j ≡ linkAt (graphIn b) j .lo * 65536 + linkAt (graphIn b) j .hi
-    go j h (inl e) = rw e (U .here ∙ ap₂ (λ (s t : ℕ). s * 65536 + t) p q)
+    go : (j : ℕ) → j < i + 1 → (j ≡ i) ⊎ (j ≢ i) → cell (store w m 0 i x) m 0 j ≡ keyAt (graphIn b) j
+    go j h (inl e) = rw e (U .here ∙ q)
     go j h (inr n) = U .else j (omega arith) n ∙ K .keys j (omega arith)
-
--- two accounts share a number of 32 bits
-pub key-small : {b : List ℕ} → IsIndex b → (i : ℕ) → i < size (graphIn b) → (linkAt (graphIn b) i .lo < maxAccounts) × (linkAt (graphIn b) i .hi < maxAccounts)
-key-small {b} I i l =
-    let m = in-member (graphIn b .links) (getD-in (link 0 0) (graphIn b .links) i l) in
-    let lo = proper I .ordered (linkAt (graphIn b) i) m in
-    let hi = proper I .below (linkAt (graphIn b) i) m in
-    (omega (arith, lo, hi, few-accounts I), omega (arith, hi, few-accounts I))
 
 -- ---- counting
 

@@ -22,8 +22,7 @@ use index::open::Outline;
 use limits::NO_GROUP;
 use stored::rows::group_parent;
 use stored::rows::link_group;
-use stored::rows::link_higher;
-use stored::rows::link_lower;
+use stored::rows::link_key;
 
 // Of each group: the last round that touched it, how many accounts and how many links it has.
 const LAST: usize = 3;
@@ -44,9 +43,7 @@ fn load_keys(s: &[u8], w: &mut [u32], m: usize)
 {
     let mut i: usize = 0;
     while i < m {
-        let a = link_lower(s, i);
-        let b = link_higher(s, i);
-        put(w, m, KEY, i, a * HALF + b);
+        put(w, m, KEY, i, link_key(s, i));
         i += 1;
     }
 }

@@ -1,18 +1,18 @@
 -- Questions on links: A, B and F. Assumes nothing.
 use mathlib.Core.Path.{_≡_, refl, sym, ap, ap₂, _∙_}
 use mathlib.Core.Logic.{_⊎_, inl, inr, _≢_}
-use mathlib.Core.Bool.{Bool, true, false, cond, not, _&&_}
+use mathlib.Core.Bool.{Bool, true, false, _&&_}
 use mathlib.Core.List.{List, [], _∷_}
 use mathlib.Core.List.{List·Memᴰ as In, List·Memᴰ·not-nil as in-nil}
-use Prim.Native.Nat.{ℕ, suc, _+_, _*_, _-_, _≤_, _<_}
+use Prim.Native.Nat.{ℕ, _+_, _*_, _-_, _≤_, _<_}
 use native.Mathlib.Nat.{le-antisymm}
 use native.Mathlib.Omega.{arith}
 use lib.Dec.{eqb, leb, ltb}
 use lib.ListN.{length}
 use borrow.Author.Tests.{le-leb, lt-leb, leb-true, ltb-false, eq-eqb}
 use Rattle.truss.specs.Limits.{minStrength, maxStrength, minLevel, maxLevel, noGroup, maxAccounts, maxLinks}
-use Rattle.truss.specs.Lists.{any, filter, range, position, largest}
-use Rattle.truss.specs.Graph.{Graph, Link, link, sameLink, linkAt, linkNumber, member}
+use Rattle.truss.specs.Lists.{any, filter, range, largest}
+use Rattle.truss.specs.Graph.{Graph, Link, link, linkAt, linkNumber, member}
 use Rattle.truss.specs.Strength.{strength, strengthBound}
 use Rattle.truss.specs.Forest.{sameComponent}
 use Rattle.truss.specs.Group.{groupAt, groups, groupOf, labelsAt}
@@ -20,7 +20,7 @@ use Rattle.truss.specs.Refusal.{Checked, passed, refuse}
 use Rattle.truss.specs.Question.{Answer, number, numbers, answer, outside, badLevel, joinedUpTo, groupLinks, ask-strength, ask-joined, ask-links}
 use Rattle.laws.proofs.Lists.{test, true-not-false, or-left-false, both, and-left, and-right, largest-max, largest-passes}
 use Rattle.laws.proofs.Numbers.{same-or-not, less-or-not}
-use Rattle.laws.proofs.Members.{in-any, number-lt, link-of-number, filter-in, in-filter, filter-none, in-range}
+use Rattle.laws.proofs.Members.{in-any, link-of-number, filter-in, in-filter, filter-none, in-range}
 use Rattle.laws.proofs.Sets.{any-number}
 use Rattle.laws.proofs.Peeling.{strength-at-most}
 use Rattle.laws.proofs.Groups.{size, strengthAt, groupAt-eq, groupAt-none, group-strong}
@@ -32,6 +32,7 @@ use Rattle.limits.specs.declared.MaybeStrength.the-variants.{Known, OutOfRange}
 use Rattle.limits.specs.Range.{strengthOf}
 use Rattle.index.specs.declared.Reply.{Reply as CReply}
 use Rattle.stored.specs.Rows.{graphIn, IsIndex, GroupsAt, Shape, proper, fits-groups, few, few-links, few-accounts, strength-range}
+use Rattle.stored.specs.Find.{found-link}
 use Rattle.stored.specs.Climb.{same-group, group-some, group-same}
 use Rattle.holding.specs.Marks.{Marks}
 use Rattle.question.specs.Replies.{Answers}
@@ -62,36 +63,9 @@ level-least k q = ltb-false k minLevel (or-left-false (ltb k minLevel) (ltb maxL
 
 -- ---- a link by its number
 
-position-end : {A : Type 0} (p : A → Bool) (xs : List A) → any p xs ≡ false → position p xs ≡ length xs
-unfolding any position
-position-end p [] h = refl
-position-end p (x ∷ xs) h = go (p x) refl h (position-end p xs)
-  where
-    go : (t : Bool) → p x ≡ t → cond t true (any p xs) ≡ false → (any p xs ≡ false → position p xs ≡ length xs) → cond (p x) 0 (suc (position p xs)) ≡ suc (length xs)
-    go true e f ih = absurd (true-not-false refl f)
-    go false e f ih = rw e (ap suc (ih f))
-
-module _ (G : Graph) (e : Link) {m r : ℕ} (links : size G ≡ m) (q : r ≡ linkNumber G e) where
-  pub found-link : r ≢ m → member (G .links) e ≡ true
-  unfolding member linkNumber
-  found-link n = go (test (member (G .links) e))
-    where
-      go : (member (G .links) e ≡ true) ⊎ (member (G .links) e ≡ false) → member (G .links) e ≡ true
-      go (inl t) = t
-      go (inr f) = absurd (n (q ∙ position-end (sameLink e) (G .links) f ∙ links))
-
-  pub no-such-link : r ≡ m → member (G .links) e ≡ false
-  no-such-link h = go (test (member (G .links) e))
-    where
-      go : (member (G .links) e ≡ true) ⊎ (member (G .links) e ≡ false) → member (G .links) e ≡ false
-      go (inl t) = absurd (omega (arith, h, q, links, number-lt G e t))
-      go (inr f) = f
-
-  pub found-in : r ≢ m → r < size G
-  found-in n = omega (arith, q, number-lt G e (found-link n))
-
-  pub found-strength : r ≢ m → strengthAt G r ≡ strength G e
-  found-strength n = ap (strength G) (ap (linkAt G) q ∙ link-of-number G e (found-link n))
+-- what the look-up says of the link's strength
+pub found-strength : (G : Graph) (e : Link) {m r : ℕ} → size G ≡ m → r ≡ linkNumber G e → r ≢ m → strengthAt G r ≡ strength G e
+found-strength G e links q n = ap (strength G) (ap (linkAt G) q ∙ link-of-number G e (found-link G e links q n))
 
 -- a strength's number, which every link of an index has
 pub known-strength : {x : ℕ} {k : Strength} → strengthOf x ≡ Known k → (minStrength ≤ x) × (x ≤ maxStrength) → k .0 ≡ x

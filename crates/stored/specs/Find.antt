@@ -1,7 +1,7 @@
 -- The number of a link, found by looking at one link after the other. Assumes nothing.
 use mathlib.Core.Path.{_≡_, refl, sym, ap, _∙_}
 use mathlib.Core.Logic.{_⊎_, inl, inr, _≢_}
-use mathlib.Core.Bool.{Bool, true, false}
+use mathlib.Core.Bool.{Bool, true, false, cond}
 use mathlib.Core.List.{List, [], _∷_}
 use Prim.Native.Nat.{ℕ, zero, suc, _+_, _≤_, _<_, min, max}
 use native.Mathlib.Nat.{le-of-suc-le-suc, not-suc-le-zero}
@@ -9,9 +9,11 @@ use native.Mathlib.Omega.{arith}
 use lib.Dec.{eqb}
 use lib.ListN.{length, getD}
 use borrow.Author.Tests.{eq-eqb, ne-eqb}
-use Rattle.truss.specs.Lists.{position}
-use Rattle.truss.specs.Graph.{Graph, Link, link, sameLink, linkAt, linkNumber}
+use Rattle.truss.specs.Lists.{any, position}
+use Rattle.truss.specs.Graph.{Graph, Link, link, sameLink, linkAt, linkNumber, member}
+use Rattle.laws.proofs.Lists.{test, true-not-false}
 use Rattle.laws.proofs.Numbers.{same-or-not}
+use Rattle.laws.proofs.Members.{number-lt}
 use Rattle.laws.proofs.Groups.{size}
 
 -- the first that passes
@@ -68,3 +70,33 @@ link-lower-first a b l = let p : a ≡ min a b = omega arith in let q : b ≡ ma
 
 pub link-higher-first : (a b : ℕ) → b ≤ a → _≡_ {A = Link} (record { lo = b; hi = a }) (link a b)
 link-higher-first a b l = let p : b ≡ min a b = omega arith in let q : a ≡ max a b = omega arith in λ i. record { lo = p i; hi = q i }
+
+-- ---- whether a link is there, by the number that the look-up gives
+
+position-end : {A : Type 0} (p : A → Bool) (xs : List A) → any p xs ≡ false → position p xs ≡ length xs
+unfolding any position
+position-end p [] h = refl
+position-end p (x ∷ xs) h = go (p x) refl h (position-end p xs)
+  where
+    go : (t : Bool) → p x ≡ t → cond t true (any p xs) ≡ false → (any p xs ≡ false → position p xs ≡ length xs) → cond (p x) 0 (suc (position p xs)) ≡ suc (length xs)
+    go true e f ih = absurd (true-not-false refl f)
+    go false e f ih = rw e (ap suc (ih f))
+
+module _ (G : Graph) (e : Link) {m r : ℕ} (links : size G ≡ m) (q : r ≡ linkNumber G e) where
+  pub found-link : r ≢ m → member (G .links) e ≡ true
+  unfolding member linkNumber
+  found-link n = go (test (member (G .links) e))
+    where
+      go : (member (G .links) e ≡ true) ⊎ (member (G .links) e ≡ false) → member (G .links) e ≡ true
+      go (inl t) = t
+      go (inr f) = absurd (n (q ∙ position-end (sameLink e) (G .links) f ∙ links))
+
+  pub no-such-link : r ≡ m → member (G .links) e ≡ false
+  no-such-link h = go (test (member (G .links) e))
+    where
+      go : (member (G .links) e ≡ true) ⊎ (member (G .links) e ≡ false) → member (G .links) e ≡ false
+      go (inl t) = absurd (omega (arith, h, q, links, number-lt G e t))
+      go (inr f) = f
+
+  pub found-in : r ≢ m → r < size G
+  found-in n = omega (arith, q, number-lt G e (found-link n))

@@ -31,6 +31,7 @@ use Rattle.laws.proofs.Decoding.{IndexFits}
 use Rattle.laws.proofs.Accepted.{graph-size, graph-proper, head-good}
 use Rattle.laws.proofs.Accepted.{Named as Accepted}
 use Rattle.laws.proofs.Agree.{index-fits}
+use Rattle.linksfile.specs.Records.{keyOf}
 use Rattle.index.specs.Strong.{strongPair}
 use Rattle.index.specs.declared.open.Outline.{Outline}
 use Rattle.index.specs.Open.{pairsIn, pairs-accepted, takes, Opened}
@@ -46,6 +47,10 @@ graphIn b = graphOf (fieldAt b 1) (pairsIn b (fieldAt b 3))
 pub record IsIndex (b : List ℕ) : Type 0 where
   pub accepted : Accepted (fieldAt b 1) (pairsIn b (fieldAt b 3))
   pub bytes : b ≡ indexBytes (graphIn b)
+
+-- a link's key, of which each half is an account
+abbrev pub keyAt : Graph → ℕ → ℕ
+keyAt G i = keyOf (linkAt G i)
 
 -- the group that a link's record names: at its own strength
 abbrev pub ownGroup : Graph → ℕ → ℕ
@@ -135,6 +140,14 @@ module _ {b : List ℕ} (I : IsIndex b) where
   module _ (i : ℕ) (l : i < size G) where
     li : i < length (index G .links)
     li = omega (arith, links-length)
+
+    -- its accounts are small
+    pub ends-small : (linkAt G i .lo < maxAccounts) × (linkAt G i .hi < maxAccounts)
+    ends-small =
+        let h = in-member (G .links) (getD-in (link 0 0) (G .links) i l) in
+        let o = proper .ordered (linkAt G i) h in
+        let b = proper .below (linkAt G i) h in
+        (omega (arith, o, b, few-accounts), omega (arith, b, few-accounts))
 
     pub link-room : 5 + 8 * i + 8 ≤ length b
     link-room = omega (arith, long, links-length, l)

@@ -5,7 +5,9 @@ ghost use Rattle.laws.proofs.Groups.{size, strengthAt};
 ghost use Rattle.laws.proofs.Stored.{groupCount, stored};
 ghost use Rattle.truss.specs.Graph.{linkAt};
 ghost use Rattle.truss.specs.Group.{leastLink};
-ghost use Rattle.stored.specs.Rows.{graphIn, ownGroup, parentOf, GroupsAt, IsIndex};
+ghost use Rattle.columns.specs.Columns.{entryBound};
+ghost use Rattle.stored.specs.Rows.{graphIn, keyAt, ownGroup, parentOf, GroupsAt, IsIndex};
+use columns::HALF;
 use wire::field_at;
 use wire::wide;
 
@@ -25,6 +27,17 @@ pub fn link_higher(s: &[u8], i: usize) -> usize
     ensures { λ r. ⌜ r ≡ linkAt (graphIn (now (s .entry))) i .hi ⌝ }
 {
     field_at(s, 5 + 8 * i + 3)
+}
+
+// The two as one number, by which links stand in order.
+pub fn link_key(s: &[u8], i: usize) -> usize
+    requires { ⌜ IsIndex (now s) ⌝ }
+    requires { ⌜ i < size (graphIn (now s)) ⌝ }
+    ensures { λ r. ⌜ (r ≡ keyAt (graphIn (now (s .entry))) i) × (r < entryBound) ⌝ }
+{
+    let a = link_lower(s, i);
+    let b = link_higher(s, i);
+    a * HALF + b
 }
 
 // Its strength.

@@ -5,7 +5,8 @@ use mathlib.Core.List.{[], _∷_}
 use lib.ListN.{length-set}
 use lib.Seq.{sets-eq}
 use Rattle.wire.specs.Writing.{written}
-use Rattle.listing.specs.Rows.{row-in, row-room, least-in, parent-small, row-is, key-small}
+use Rattle.stored.specs.Rows.{ends-small}
+use Rattle.listing.specs.Rows.{row-in, row-room, least-in, parent-small, row-is}
 use borrow.Author.Needs.{needs}
 use Rattle.listing.proofs.rows.put_row.Statement.{statement}
 use Rattle.listing.proofs.rows.put_row.Tie as tie
@@ -53,7 +54,7 @@ link-lower-requires : tie.Need-link-lower-requires
 link-lower-requires c κs = (c .before .before .before .before .before .before .before .before .pre .0 .all .sized .groups-at .is-index, least-in (c .before .before .before .before .before .before .before .before .pre .0) (c .before .before .before .before .group-least .ensures))
 
 cast-out-5 : tie.Need-cast-out-5
-cast-out-5 c = omega (arith, c .link-lower .ensures, key-small (c .before .before .before .before .before .before .before .before .before .pre .0 .all .sized .groups-at .is-index) (c .before .before .before .before .before .group-least .result) (least-in (c .before .before .before .before .before .before .before .before .before .pre .0) (c .before .before .before .before .before .group-least .ensures)) .0)
+cast-out-5 c = omega (arith, c .link-lower .ensures, ends-small (c .before .before .before .before .before .before .before .before .before .pre .0 .all .sized .groups-at .is-index) (c .before .before .before .before .before .group-least .result) (least-in (c .before .before .before .before .before .before .before .before .before .pre .0) (c .before .before .before .before .before .group-least .ensures)) .0)
 
 slice-write-out-5 : tie.Need-slice-write-out-5
 slice-write-out-5 c = simp length-set (omega (arith, c .before .before .before .before .before .before .before .before .before .pre .1))
@@ -62,7 +63,7 @@ link-higher-requires : tie.Need-link-higher-requires
 link-higher-requires c κs = (c .before .before .before .before .before .before .before .before .before .pre .0 .all .sized .groups-at .is-index, least-in (c .before .before .before .before .before .before .before .before .before .pre .0) (c .before .before .before .before .before .group-least .ensures))
 
 cast-out-6 : tie.Need-cast-out-6
-cast-out-6 c = omega (arith, c .link-higher .ensures, key-small (c .before .before .before .before .before .before .before .before .before .before .pre .0 .all .sized .groups-at .is-index) (c .before .before .before .before .before .before .group-least .result) (least-in (c .before .before .before .before .before .before .before .before .before .before .pre .0) (c .before .before .before .before .before .before .group-least .ensures)) .1)
+cast-out-6 c = omega (arith, c .link-higher .ensures, ends-small (c .before .before .before .before .before .before .before .before .before .before .pre .0 .all .sized .groups-at .is-index) (c .before .before .before .before .before .before .group-least .result) (least-in (c .before .before .before .before .before .before .before .before .before .before .pre .0) (c .before .before .before .before .before .before .group-least .ensures)) .1)
 
 slice-write-out-6 : tie.Need-slice-write-out-6
 slice-write-out-6 c = simp length-set (omega (arith, c .before .before .before .before .before .before .before .before .before .before .pre .1))

@@ -6,7 +6,8 @@ use Rattle.truss.specs.Group.{groupAt}
 use Rattle.truss.specs.Question.{ask-links, groupLinks}
 use Rattle.stored.specs.Rows.{graphIn}
 use Rattle.question.specs.Replies.{answer-refused, answer-shown}
-use Rattle.question.specs.Links.{F-first, F-second, F-level, F-none, F-is, level-least, found-link, found-in, no-such-link, shape-groups, shape-few, members-are}
+use Rattle.stored.specs.Find.{found-link, found-in, no-such-link}
+use Rattle.question.specs.Links.{F-first, F-second, F-level, F-none, F-is, level-least, shape-groups, shape-few, members-are}
 use borrow.Author.Needs.{needs}
 use Rattle.question.proofs.links.group_links.Statement.{statement}
 use Rattle.question.proofs.links.group_links.Tie as tie

@@ -4,7 +4,8 @@ use Rattle.truss.specs.Graph.{link}
 use Rattle.truss.specs.Question.{ask-joined}
 use Rattle.stored.specs.Rows.{graphIn}
 use Rattle.question.specs.Replies.{answer-refused, answer-number}
-use Rattle.question.specs.Links.{B-outside, B-1, B-2, B-3, B-4, B-inside, B-first, B-second, B-is, found-link, found-in, no-such-link, shape-groups}
+use Rattle.stored.specs.Find.{found-link, found-in, no-such-link}
+use Rattle.question.specs.Links.{B-outside, B-1, B-2, B-3, B-4, B-inside, B-first, B-second, B-is, shape-groups}
 use borrow.Author.Needs.{needs}
 use Rattle.question.proofs.links.joined.Statement.{statement}
 use Rattle.question.proofs.links.joined.Tie as tie

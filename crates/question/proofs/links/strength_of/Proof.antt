@@ -5,7 +5,8 @@ use Rattle.truss.specs.Graph.{link}
 use Rattle.truss.specs.Question.{ask-strength}
 use Rattle.stored.specs.Rows.{graphIn}
 use Rattle.question.specs.Replies.{answer-refused, answer-number}
-use Rattle.question.specs.Links.{A-first, A-second, A-none, A-is, found-link, found-in, found-strength, no-such-link, strength-known, known-strength, no-strength}
+use Rattle.stored.specs.Find.{found-link, found-in, no-such-link}
+use Rattle.question.specs.Links.{A-first, A-second, A-none, A-is, found-strength, strength-known, known-strength, no-strength}
 use borrow.Author.Needs.{needs}
 use Rattle.question.proofs.links.strength_of.Statement.{statement}
 use Rattle.question.proofs.links.strength_of.Tie as tie

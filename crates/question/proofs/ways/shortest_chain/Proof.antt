@@ -5,7 +5,8 @@ use Rattle.truss.specs.Graph.{link}
 use Rattle.truss.specs.Question.{ask-chain}
 use Rattle.stored.specs.Rows.{graphIn}
 use Rattle.question.specs.Replies.{answer-refused}
-use Rattle.question.specs.Links.{B-1, B-2, B-3, B-4, B-inside, found-link, no-such-link}
+use Rattle.stored.specs.Find.{found-link, no-such-link}
+use Rattle.question.specs.Links.{B-1, B-2, B-3, B-4, B-inside}
 use Rattle.question.specs.Ways.{G-outside, G-level, G-first, G-second, G-is, way-asks, way-small, way-no-room, way-wrote}
 use borrow.Author.Needs.{needs}
 use Rattle.question.proofs.ways.shortest_chain.Statement.{statement}
