@@ -21,7 +21,7 @@ use Rattle.linksfile.specs.Load.{faultOf, forget}
 use Rattle.indexfile.specs.Rows.{indexIn}
 use Rattle.indexfile.specs.Same.{whole-length}
 use Rattle.index.specs.declared.Reply.{Reply as CReply}
-use Rattle.index.specs.Solved.{SolveAsks, Solved}
+use Rattle.index.specs.Solved.{SolveAsks, Solved, SolveGives}
 
 -- a reply of the code, and the buffer after the call, in the definitions' words
 abbrev pub replyIn : CReply → Reply
@@ -40,6 +40,10 @@ finished n ps out = write (checkRoom (passed (indexBytes (graphOf n ps))) out) o
 
 abbrev pub FinishGives : ℕ → ℕ → Written → List ℕ → List ℕ → Type 0
 FinishGives n m r w out = (ps : List Pair) → SolveAsks n m ps w → r ≡ finished n ps out
+
+-- what it leaves in the work space: the columns as they were solved
+abbrev pub FinishLeaves : ℕ → ℕ → List ℕ → List ℕ → Type 0
+FinishLeaves n m w w′ = (joins : ℕ) × (groups : ℕ) × SolveGives n m joins groups w w′
 
 pub record Replies (r : CReply) (refusal value : ℕ) : Type 0 where
   pub is-refusal : r .refusal ≡ refusal

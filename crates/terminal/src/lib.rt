@@ -1,9 +1,11 @@
 // The calls for the terminal's C host: numbers and byte slices in, four numbers out. A slice is a pointer and then a length. include/footballelm.h has them.
 ghost use mathlib.Core.List.{[]};
+ghost use Rattle.truss.specs.Change.{put-in, withdraw};
 ghost use Rattle.truss.specs.Question.{ask-all, ask-chain, ask-groups-at, ask-joined, ask-links, ask-strength, ask-strongest};
 ghost use Rattle.index.specs.Build.{BuildGives};
 ghost use Rattle.index.specs.Read.{ReadGives};
 ghost use Rattle.desk.specs.DeskBytes.{AskBytesGives};
+ghost use Rattle.changes.specs.Calls.{ChangeGives};
 use desk::ask_bytes;
 use desk::ask_number;
 use index::Reply;
@@ -23,6 +25,22 @@ pub extern "C" fn fe_read(index: &[u8], links: &mut [u8]) -> Reply
     ensures { λ r. ⌜ ReadGives (now (index .entry)) (now (links .entry)) r (now (links .exit)) ⌝ }
 {
     index::read::read(index, links)
+}
+
+// Link a-b put in: the index of the altered links.
+#[no_mangle]
+pub extern "C" fn fe_put_in(index: &[u8], a: u32, b: u32, out: &mut [u8]) -> Reply
+    ensures { λ r. ⌜ ChangeGives (put-in a b) (now (index .entry)) (now (out .entry)) r (now (out .exit)) ⌝ }
+{
+    changes::put_in(index, out, a as usize, b as usize)
+}
+
+// Link a-b withdrawn: the index of the altered links.
+#[no_mangle]
+pub extern "C" fn fe_withdraw(index: &[u8], a: u32, b: u32, out: &mut [u8]) -> Reply
+    ensures { λ r. ⌜ ChangeGives (withdraw a b) (now (index .entry)) (now (out .entry)) r (now (out .exit)) ⌝ }
+{
+    changes::withdraw(index, out, a as usize, b as usize)
 }
 
 // A. The strength of link a-b.

@@ -18,7 +18,7 @@ same-length : tie.Need-same-length
 same-length c = search needs
 
 returns : tie.Need-returns
-returns c = λ ps P. no-room (c .before .before .before .before .before .before .before .before .before .args .out .now) (c .before .before .before .before .before .solve .ensures ps P) (c .before .before .index-length .ensures) (c .before .if1 .taken) (c .answered .ensures)
+returns c = (λ ps P. no-room (c .before .before .before .before .before .before .before .before .before .args .out .now) (c .before .before .before .before .before .solve .ensures ps P) (c .before .before .index-length .ensures) (c .before .if1 .taken) (c .answered .ensures), (_, _, c .before .before .before .before .before .solve .ensures))
 
 write-index-requires : tie.Need-write-index-requires
 write-index-requires c κs = let W = c .before .before .before .before .before .before .solve .ensures _ (c .before .before .before .before .before .before .before .before .before .before .pre .1) .writes in (W, omega (arith, c .before .before .if1 .left, c .before .before .before .index-length .ensures))
@@ -36,7 +36,7 @@ same-length-3 : tie.Need-same-length-3
 same-length-3 c = search needs
 
 returns-2 : tie.Need-returns-2
-returns-2 c = λ ps P. wrote (c .before .before .before .before .before .before .before .before .before .before .before .before .before .before .args .out .now) (c .before .before .before .before .before .before .before .before .before .before .solve .ensures ps P) (c .before .before .before .before .before .before .before .index-length .ensures) (c .before .before .before .before .before .before .if1 .left) (c .before .before .before .write-index .ensures) (c .answered2 .ensures)
+returns-2 c = (λ ps P. wrote (c .before .before .before .before .before .before .before .before .before .before .before .before .before .before .args .out .now) (c .before .before .before .before .before .before .before .before .before .before .solve .ensures ps P) (c .before .before .before .before .before .before .before .index-length .ensures) (c .before .before .before .before .before .before .if1 .left) (c .before .before .before .write-index .ensures) (c .answered2 .ensures), (_, _, c .before .before .before .before .before .before .before .before .before .before .solve .ensures))
 
 pub finish-spec : {M : Type 1} → statement M
 finish-spec =

@@ -1,0 +1,3 @@
+-- The keys of an index's links with one more, and with one less.
+pub mod Entries
+pub mod Keys
