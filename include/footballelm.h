@@ -31,9 +31,9 @@ typedef struct {
 #define FE_DESK 128
 
 /* Bytes of stack that are enough for any call, below the caller's frame. No function calls itself, directly or through others, and each frame has a fixed size, so the
- * deepest row of calls bounds every call, whatever is lent: 156,104 bytes of fe_build, 147,992 of fe_read, 148,952 of a question. Summed from the object code
- * (tests/frames) and measured (tests/c/stack.c), not proved. The other 7,736 bytes are for the C library's memset and memcpy: a first call that had to bind memset took
- * 3,184 of them. A thread needs all this and what its own functions take. */
+ * deepest row of calls bounds every call, whatever is lent: 156,136 bytes of fe_build, 147,992 of fe_read, 148,040 of a change, 148,952 of a question. Summed from
+ * the object code (tests/frames) and measured (tests/c/stack.c), not proved. The other 7,704 bytes are for the C library's memset and memcpy: a first call that had to
+ * bind memset took 3,136 of them. A thread needs all this and what its own functions take. */
 #define FE_STACK_MAX 163840
 
 /* Every call:
@@ -80,6 +80,33 @@ fe_reply fe_build(const uint8_t *links, size_t links_len, uint8_t *index, size_t
  *     7   the bytes are not the index of any links file: every strength, join and group is checked, so this costs about one build
  *     12  the links file is longer than links_len; a buffer of just its length suffices */
 fe_reply fe_read(const uint8_t *index, size_t index_len, uint8_t *links, size_t links_len);
+
+/* Changes: one link put in or withdrawn, from an index to the index of the altered links, in a second buffer. A change is no question: it names no window and moves no
+ * tally.
+ *
+ *   index, index_len  the index; it is only read. Any bytes may be lent: a change checks them all, which costs about one build, and then builds.
+ *   a, b              the two accounts of the link, in either order.
+ *   out, out_len      where the new index goes, apart from the old one; what it held before does not matter.
+ *
+ * Done: the new index is the first `value` bytes at `out`; the bytes after it stay. It is what fe_build writes for a links file that names the altered links, with the
+ * accounts of before. From there on lend `out` with the length `value`, just these bytes, where the old index was lent; a longer slice is refused by 7. Two buffers of
+ * FE_INDEX_MAX bytes in turn are enough for any row of changes.
+ *
+ * Refused, with place 0, that of 3 and 5 too: the first of the call's refusals that applies. The old index stays the one to lend.
+ *     7   the bytes are not the index of any links file
+ *     9   an account not below the number of accounts
+ *     5   both accounts are the same
+ *     14  the pair is there already
+ *     11  the pair is no link; a pair of equal accounts is none
+ *     3   there are 2,048 links already
+ *     12  the new index is longer than out_len; a buffer of just its length suffices. Withdrawing a link may lengthen an index: groups may fall
+ *         apart, and each part is stored */
+
+/* Puts the link a-b in. Refused by 7, 9, 5, 14, 3, 12, in this order. */
+fe_reply fe_put_in(const uint8_t *index, size_t index_len, uint32_t a, uint32_t b, uint8_t *out, size_t out_len);
+
+/* Withdraws the link a-b. Refused by 7, 9, 11, 12, in this order. */
+fe_reply fe_withdraw(const uint8_t *index, size_t index_len, uint32_t a, uint32_t b, uint8_t *out, size_t out_len);
 
 /* Questions on an index.
  *

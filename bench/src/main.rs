@@ -1,7 +1,7 @@
-//! Times the library's build and reading beside the reference's fast build, from links file to index bytes (and back), and the questions beside the library's
-//! build, in one run: bench CARDS [IGRAPH]
+//! Times the library's build and reading beside the reference's fast build, from links file to index bytes (and back), and the questions and changes beside the
+//! library's build, in one run: bench CARDS [IGRAPH]
 //!
-//! CARDS is a folder of links files, IGRAPH the program made of igraph_truss.c. Prints two tables with an empty line between them. A time is the least of many
+//! CARDS is a folder of links files, IGRAPH the program made of igraph_truss.c. Prints three tables with empty lines between them. A time is the least of many
 //! turns; the calls take turns, so that all meet the same machine. igraph computes strengths only: no forest, no groups, no bytes.
 
 use std::cmp::Reverse;
@@ -15,7 +15,7 @@ use reference::index::{Index, StrongLink};
 use reference::net::Net;
 use reference::records::two;
 use reference::rules::{Rules, MAX_ACCOUNTS, MAX_NAMED};
-use terminal::{Question, ANSWER_MAX, DESK, INDEX_MAX};
+use terminal::{Change, Question, ANSWER_MAX, DESK, INDEX_MAX};
 
 const TURNS: usize = 3_000;
 
@@ -151,6 +151,28 @@ fn questions(index: &Index) -> [Question; 8] {
     ]
 }
 
+/// The link in the middle put in, from the index of the card without it, and withdrawn: each change with the index that it is given. A full card can be put
+/// together so too.
+fn changes(index: &[u8]) -> [(Change, Vec<u8>); 2] {
+    let links = Index::read(RULES, index).expect("an index").links;
+    let middle = links[links.len() / 2];
+    let ends = (middle.lower.into(), middle.higher.into());
+    let mut less = vec![0; INDEX_MAX];
+    let withdrawn = terminal::change(Change::Withdraw(ends), index, &mut less);
+    assert!(withdrawn.refusal == 0, "a withdrawal is refused");
+    less.truncate(withdrawn.value as usize);
+    let mut whole = vec![0; INDEX_MAX];
+    let put_in = terminal::change(Change::PutIn(ends), &less, &mut whole);
+    assert!(
+        whole[..put_in.value as usize] == *index,
+        "the link put in again gives another index"
+    );
+    [
+        (Change::PutIn(ends), less),
+        (Change::Withdraw(ends), index.to_vec()),
+    ]
+}
+
 fn main() {
     let mut words = std::env::args().skip(1);
     let folder = words.next().expect("a folder of links files");
@@ -161,7 +183,7 @@ fn main() {
 
     println!("| card | accounts | links | greatest strength | build, us | read, us | reference's build, us | build / reference | read / reference | igraph strengths, us |");
     println!("|---|---|---|---|---|---|---|---|---|---|");
-    let mut asked = String::new();
+    let (mut asked, mut changed) = (String::new(), String::new());
     for card in &cards {
         let file = std::fs::read(card).expect("a links file");
         let (mut ours, mut theirs) = ([0; INDEX_MAX], [0; INDEX_MAX]);
@@ -192,10 +214,14 @@ fn main() {
             }
         }
 
+        let changes = changes(index);
+        let mut altered = [0; INDEX_MAX];
+
         let mut library = Least(Duration::MAX);
         let mut reading = Least(Duration::MAX);
         let mut reference = Least(Duration::MAX);
         let mut asking = [const { Least(Duration::MAX) }; 8];
+        let mut changing = [const { Least(Duration::MAX) }; 2];
         for _ in 0..TURNS {
             library.time(|| terminal::build(black_box(&file), &mut ours));
             reading.time(|| terminal::read(black_box(index), &mut back));
@@ -203,6 +229,9 @@ fn main() {
                 .time(|| reference::fast::build(RULES, black_box(&file), &mut theirs, &mut []));
             for (question, least) in questions.iter().zip(&mut asking) {
                 least.time(|| terminal::put(black_box(question), index, &mut answer, &mut desk));
+            }
+            for ((change, index), least) in changes.iter().zip(&mut changing) {
+                least.time(|| terminal::change(black_box(*change), index, &mut altered));
             }
         }
         let igraph = peer.as_deref().and_then(|program| igraph(program, card));
@@ -222,7 +251,13 @@ fn main() {
         for (least, note) in asking.iter().zip(&notes) {
             asked += &format!(" {:.2}{note} |", least.micros() / library.micros());
         }
+        changed += &format!("\n| {name} |");
+        for least in &changing {
+            changed += &format!(" {:.2} |", least.micros() / library.micros());
+        }
     }
     println!("\n| card | A / build | B / build | C / build | D / build | E / build | F / build | G / build, longest | G / build, middle |");
     println!("|---|---|---|---|---|---|---|---|---|{asked}");
+    println!("\n| card | put in / build | withdraw / build |");
+    println!("|---|---|---|{changed}");
 }

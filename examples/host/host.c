@@ -1,5 +1,5 @@
-/* A host of the terminal: builds the index of card B of document 01, asks every question on it from two windows, meets every refusal, and shows which window was
- * answered how often. After `rt staticlib terminal`:
+/* A host of the terminal: builds the index of card B of document 01, asks every question on it from two windows, meets every refusal, shows which window was
+ * answered how often, and then plays an afternoon in which links come and go. After `rt staticlib terminal`:
  *
  *     gcc -std=c11 -O2 -Wall -Wextra -Werror -pedantic -Iinclude examples/host/host.c target/staticlib/libterminal.a -o target/host && target/host
  *
@@ -24,10 +24,13 @@ enum { PAYOUTS = 3, DISPUTES = 17 };
 /* Accounts as questions name them, two bytes each. */
 static const uint8_t THREE[] = {0, 3}, TWO_AND_FOUR[] = {0, 2, 0, 4}, SEVEN[] = {0, 7};
 
-static uint8_t index_bytes[FE_INDEX_MAX], answer[FE_CHAIN_MAX], desk[FE_DESK];
+/* Two buffers for the index: a change goes from the one in use into the other. */
+static uint8_t buffers[2][FE_INDEX_MAX], *index_bytes = buffers[0], *second = buffers[1];
+static size_t length;
+static uint8_t answer[FE_CHAIN_MAX], desk[FE_DESK];
 
 /* Who can put a refusal right, and its reason. */
-static const char *const WHY[14][2] = {
+static const char *const WHY[15][2] = {
     {"", ""},
     {"filer of links", "an unknown or misplaced kind, a cut record, or bytes after the end"},
     {"filer of links", "the number of accounts is 0 or above 1,024"},
@@ -42,14 +45,18 @@ static const char *const WHY[14][2] = {
     {"window", "a pair is no link"},
     {"host", "the result is longer than the buffer lent for it, or the desk record is below 128 bytes"},
     {"host", "the window is above 31"},
+    {"filer of links", "the pair is there already"},
 };
 
 static unsigned two(const uint8_t *at) { return at[0] * 256u + at[1]; }
 
+static void why(fe_reply r) { printf(", for the %s: %s.\n", WHY[r.refusal][0], WHY[r.refusal][1]); }
+
+/* Of a links file, 1 to 6 have a place in it. */
 static void refused(fe_reply r) {
     printf("Refused %u", r.refusal);
     if (r.refusal <= 6) printf(" at byte %u", r.value);
-    printf(", for the %s: %s.\n", WHY[r.refusal][0], WHY[r.refusal][1]);
+    why(r);
 }
 
 /* The answer of A and B: a number. */
@@ -116,13 +123,41 @@ static void tallies(void) {
     printf(" none at the others.\n");
 }
 
+/* A change: if it is done, the new index is in use from here on, and the old one's buffer takes the next; refused, all stays as it was, and there is no place. */
+static void change(const char *text, fe_reply r) {
+    if (r.refusal) {
+        printf("Refused %u", r.refusal);
+        why(r);
+        return;
+    }
+    uint8_t *old = index_bytes;
+    index_bytes = second, second = old, length = r.value;
+    printf("%s: %u links, an index of %zu bytes.\n", text, two(index_bytes + 3), length);
+}
+
+static void group_of_0_1(void) {
+    list("Links of the group at 4 with 0-1", fe_group_links(index_bytes, length, 0, 1, 4, answer, sizeof answer, PAYOUTS, desk, sizeof desk), 1);
+}
+
+/* A ticket of account 1 is cashed by account 4, and two groups become one. The same pair comes in again. Then 3-4 turns out to be a mistake, and the group is what it
+ * was. */
+static void afternoon(void) {
+    group_of_0_1();
+    change("A ticket is cashed, 1-4 put in", fe_put_in(index_bytes, length, 1, 4, second, FE_INDEX_MAX));
+    group_of_0_1();
+    change("4-1 put in", fe_put_in(index_bytes, length, 4, 1, second, FE_INDEX_MAX));
+    change("3-4 withdrawn", fe_withdraw(index_bytes, length, 3, 4, second, FE_INDEX_MAX));
+    group_of_0_1();
+    tallies();
+}
+
 int main(void) {
-    fe_reply r = fe_build(CARD, sizeof CARD, index_bytes, sizeof index_bytes);
+    fe_reply r = fe_build(CARD, sizeof CARD, index_bytes, FE_INDEX_MAX);
     if (r.refusal) {
         refused(r);
         return 1;
     }
-    size_t length = r.value;
+    length = r.value;
     printf("Card B: %u accounts, %u links, an index of %zu bytes.\n", two(index_bytes + 1), two(index_bytes + 3), length);
 
     number("Strength of 2-3", fe_strength(index_bytes, length, 2, 3, PAYOUTS, desk, sizeof desk));
@@ -164,5 +199,7 @@ int main(void) {
     refused(fe_chain(index_bytes, length, 0, 1, 5, 6, 3, answer, 31, DISPUTES, desk, sizeof desk));            /* five triangles take 32 bytes */
     refused(fe_strength(index_bytes, length, 2, 3, FE_WINDOWS, desk, sizeof desk));                            /* window 32: the last one is 31 */
     tallies();
+
+    afternoon();
     return 0;
 }

@@ -1,10 +1,10 @@
-/* The nine calls in one form, so that a test can go through them all and can put a faulty one in a call's place. */
+/* The eleven calls in one form, so that a test can go through them all and can put a faulty one in a call's place. */
 #ifndef CALLS_H
 #define CALLS_H
 
 #include "footballelm.h"
 
-enum call { BUILD, READ, STRENGTH, JOINED, GROUPS_AT, STRONGEST, ALL_GROUPS, GROUP_LINKS, CHAIN, CALLS };
+enum call { BUILD, READ, PUT_IN, WITHDRAW, STRENGTH, JOINED, GROUPS_AT, STRONGEST, ALL_GROUPS, GROUP_LINKS, CHAIN, CALLS };
 
 struct slice {
     uint8_t *at;
@@ -23,13 +23,18 @@ typedef fe_reply library(const struct asked *asked);
 
 static inline const char *name_of(enum call call) {
     static const char *const NAME[CALLS] = {
-        "fe_build", "fe_read", "fe_strength", "fe_joined", "fe_groups_at", "fe_strongest_groups", "fe_all_groups", "fe_group_links", "fe_chain",
+        "fe_build",     "fe_read",             "fe_put_in",     "fe_withdraw",    "fe_strength", "fe_joined",
+        "fe_groups_at", "fe_strongest_groups", "fe_all_groups", "fe_group_links", "fe_chain",
     };
     return NAME[call];
 }
 
+static inline int is_change(enum call call) {
+    return call == PUT_IN || call == WITHDRAW;
+}
+
 static inline int is_question(enum call call) {
-    return call > READ;
+    return call > WITHDRAW;
 }
 
 static inline int has_accounts(enum call call) {
@@ -40,9 +45,9 @@ static inline int has_level(enum call call) {
     return call == GROUPS_AT || call == GROUP_LINKS || call == CHAIN;
 }
 
-/* How many of a question's numbers are accounts: two for each link. */
+/* How many of a call's numbers are accounts: two for each link. */
 static inline uint32_t ends_of(enum call call) {
-    return !is_question(call) || has_accounts(call) ? 0 : call == JOINED || call == CHAIN ? 4 : 2;
+    return call <= READ || has_accounts(call) ? 0 : call == JOINED || call == CHAIN ? 4 : 2;
 }
 
 static inline int has_buffer(enum call call) {
@@ -55,6 +60,8 @@ static inline fe_reply make_call(const struct asked *asked) {
     switch (asked->call) {
     case BUILD: return fe_build(i.at, i.length, o.at, o.length);
     case READ: return fe_read(i.at, i.length, o.at, o.length);
+    case PUT_IN: return fe_put_in(i.at, i.length, n[0], n[1], o.at, o.length);
+    case WITHDRAW: return fe_withdraw(i.at, i.length, n[0], n[1], o.at, o.length);
     case STRENGTH: return fe_strength(i.at, i.length, n[0], n[1], w, d.at, d.length);
     case JOINED: return fe_joined(i.at, i.length, n[0], n[1], n[2], n[3], w, d.at, d.length);
     case GROUPS_AT: return fe_groups_at(i.at, i.length, v.at, v.length, asked->k, o.at, o.length, w, d.at, d.length);

@@ -22,6 +22,9 @@ static const struct question {
     uint8_t accounts[2];
 } ASKED = {{1, 2, 2, 3}, 3, {0, 1}};
 
+/* 1-2 is a link, and can be withdrawn; what is put in is 1-4. */
+enum { PUT = 4 };
+
 /* Of each call done on this card: the value, and what is in the buffer. */
 static uint32_t value[CALLS];
 static uint8_t result[CALLS][ROOM], index_bytes[ROOM];
@@ -60,6 +63,7 @@ static struct asked lend(enum call call, enum state read, enum state accounts, e
     memset(&own, FILL, sizeof own);
     memcpy(own.read, call == BUILD ? CARD : index_bytes, length);
     memcpy(own.accounts, ASKED.accounts, sizeof own.accounts), memcpy(a.number, ASKED.number, sizeof a.number);
+    if (call == PUT_IN) a.number[1] = PUT;
     memset(own.desk, 0, FE_DESK);
     a.read = in_state(own.read, length, read), a.accounts = in_state(own.accounts, sizeof own.accounts, accounts);
     a.buffer = in_state(own.buffer, ROOM, buffer), a.desk = in_state(own.desk, RECORD, desk);
@@ -178,6 +182,15 @@ static fe_reply empty_is_done(const struct asked *a) {
     return a->call == READ && reply.refusal == 12 ? (fe_reply){0, 0, 0, 0} : reply;
 }
 
+static fe_reply empty_first(const struct asked *a) {
+    return a->buffer.length ? make_call(a) : (fe_reply){12, 0, 0, 0};
+}
+
+static fe_reply null_left_alone(const struct asked *a) {
+    fe_reply reply = make_call(a);
+    return a->buffer.at == NULL && reply.refusal == 12 ? (fe_reply){0, value[a->call], 0, 0} : reply;
+}
+
 static fe_reply looks_at_another_account(const struct asked *a) {
     struct asked other = *a;
     if (a->accounts.at > a->read.at && a->accounts.at < a->read.at + a->read.length) other.accounts.at--;
@@ -200,10 +213,13 @@ static void planted_faults(uint8_t *memory) {
     count("planted", "a null desk record refused first", combinations(null_is_12, STRENGTH, 0) > 0);
     count("planted", "a null index refused before the window", combinations(null_before_window, JOINED, 0) > 0);
     count("planted", "a reading into nothing done", combinations(empty_is_done, READ, 0) > 0);
+    count("planted", "a change into nothing refused before the index", combinations(empty_first, WITHDRAW, 0) > 0);
+    count("planted", "a change into a null buffer done", combinations(null_left_alone, PUT_IN, 0) > 0);
     count("planted", "other accounts read where they lie in the index", inside(looks_at_another_account, ALL_GROUPS, 0) > 0);
     if (!memory) return;
     count("planted", "lengths read cut to 32 bits", long_slices(length_cut, memory, BUILD, 0) > 0 && long_slices(length_cut, memory, GROUPS_AT, 0) > 0);
     count("planted", "lengths written cut to 32 bits", long_slices(room_cut, memory, READ, 0) > 0 && long_slices(room_cut, memory, JOINED, 0) > 0);
+    count("planted", "a change's lengths cut to 32 bits", long_slices(length_cut, memory, PUT_IN, 0) > 0 && long_slices(room_cut, memory, WITHDRAW, 0) > 0);
 }
 
 /* The calls on plain slices: they must be done. */

@@ -17,7 +17,7 @@
 
 enum { PAINT = 0xA5, PAGE = 4096, STACK = 1 << 20, NAMED = 16, ALIGNED = 16 };
 
-static uint8_t links[FE_LINKS_MAX], index_bytes[FE_INDEX_MAX], back[FE_LINKS_MAX], accounts[2 * NAMED], answer[FE_CHAIN_MAX], desk[FE_DESK];
+static uint8_t links[FE_LINKS_MAX], index_bytes[FE_INDEX_MAX], back[FE_LINKS_MAX], second[FE_INDEX_MAX], accounts[2 * NAMED], answer[FE_CHAIN_MAX], desk[FE_DESK];
 static size_t links_len, length;
 static uint32_t last;
 static char *stack; /* its lowest byte; right below it lies a guard page */
@@ -36,7 +36,7 @@ static uint8_t *put(uint8_t *at, uint32_t a, uint32_t b) {
 }
 
 /* All pairs of the first accounts: every part of the build has work. With a nest, one more account for each lower strength down to 3, linked to so many of
- * the first less one: each group lies in the next, and a question climbs through all of them. The last account is linked to 0 and 1 in either. */
+ * the first less one: each group lies in the next, and a question climbs through all of them. The last account that is linked is linked to 0 and 1 in either; one more has no link, so that one can be put in. */
 static void draw(uint32_t first, int nest) {
     uint8_t *at = links + 5;
     for (last = 1; last < first; last++)
@@ -45,7 +45,7 @@ static void draw(uint32_t first, int nest) {
         for (uint32_t ends = first - 2; ends >= 2; ends--, last++)
             for (uint32_t a = 0; a < ends; a++) at = put(at, a, last);
     size_t count = (size_t)(at - links) / 5 - 1;
-    links[0] = 1, links[1] = (uint8_t)(last >> 8), links[2] = (uint8_t)last, links[3] = (uint8_t)(count >> 8), links[4] = (uint8_t)count;
+    links[0] = 1, links[1] = (uint8_t)((last + 1) >> 8), links[2] = (uint8_t)(last + 1), links[3] = (uint8_t)(count >> 8), links[4] = (uint8_t)count;
     *at++ = 5;
     links_len = (size_t)(at - links);
     last--;
@@ -56,7 +56,9 @@ static void draw(uint32_t first, int nest) {
 static void prepare(enum call call, size_t room) {
     asked = (struct asked){.call = call, .k = 3, .number = {0, 1, 1, last}, .read = {index_bytes, length}, .accounts = {accounts, sizeof accounts},
                            .buffer = {answer, sizeof answer}, .window = FE_WINDOWS - 1, .desk = {desk, sizeof desk}};
-    if (call == STRENGTH) asked.number[0] = 1, asked.number[1] = last;
+    if (call == STRENGTH || call == WITHDRAW) asked.number[0] = 1, asked.number[1] = last;
+    if (call == PUT_IN) asked.number[1] = last + 1;
+    if (is_change(call)) asked.buffer = (struct slice){second, sizeof second};
     if (call == CHAIN) asked.number[0] = 2, asked.number[1] = 3; /* two triangles from 1-last, or three */
     if (call == READ) asked.buffer = (struct slice){back, sizeof back};
     if (call == BUILD) asked.read = (struct slice){links, links_len}, asked.buffer = (struct slice){index_bytes, room};

@@ -199,7 +199,9 @@ static void draw_numbers(struct random *r, struct turn *t) {
         t->number[i] = record && random_below(r, 6) ? two(record + 1 + 2 * turned) : some_account(r, t);
         t->number[i + 1] = record && random_below(r, 6) ? two(record + 3 - 2 * turned) : some_account(r, t);
     }
+    if (t->call == PUT_IN && random_below(r, 2)) t->number[0] = some_account(r, t), t->number[1] = some_account(r, t); /* mostly no link yet */
     if (random_below(r, 10) == 0) t->number[2] = t->number[1], t->number[3] = t->number[0]; /* a link with itself */
+    if (random_below(r, 40) == 0) t->number[1] = t->number[0];
     if (random_below(r, 60) == 0) t->number[random_below(r, 4)] += random_below(r, 2) ? UINT32_C(0x10000) : UINT32_C(0x80000000);
 }
 

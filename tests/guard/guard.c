@@ -1,4 +1,4 @@
-/* The calls between guard pages, on cards, indexes and questions that are drawn and then changed again and again: an own driver with a seed.
+/* The calls between guard pages, on cards, indexes, changes and questions that are drawn and then changed again and again: an own driver with a seed.
  *
  *     guard                          planted faults, then TURNS turns from seed 1: the gate's run
  *     guard turns N [SEED]           so many turns
@@ -17,12 +17,12 @@
 #include <string.h>
 #include <time.h>
 
-enum { TURNS = 120000, PLANTED_TURNS = 20000, KEPT = 1 << 15, SHOWN = 5 };
+enum { TURNS = 150000, PLANTED_TURNS = 20000, KEPT = 1 << 15, SHOWN = 5, REPLIES = 15 };
 
 /* The refusals that each call can have. */
 static const uint8_t REFUSALS[CALLS][8] = {
-    {1, 2, 3, 4, 5, 6, 12}, {7, 12}, {7, 9, 11, 12, 13}, {7, 9, 11, 12, 13}, {7, 8, 9, 10, 12, 13}, {7, 8, 9, 12, 13}, {7, 8, 9, 12, 13}, {7, 9, 10, 11, 12, 13},
-    {7, 9, 10, 11, 12, 13},
+    {1, 2, 3, 4, 5, 6, 12}, {7, 12}, {7, 9, 5, 14, 3, 12}, {7, 9, 11, 12}, {7, 9, 11, 12, 13}, {7, 9, 11, 12, 13}, {7, 8, 9, 10, 12, 13}, {7, 8, 9, 12, 13},
+    {7, 8, 9, 12, 13}, {7, 9, 10, 11, 12, 13}, {7, 9, 10, 11, 12, 13},
 };
 
 struct kept {
@@ -32,7 +32,7 @@ struct kept {
 
 static struct kept kept[KEPT];
 static size_t kept_count;
-static uint64_t passed, failed, made, met_count[CALLS][14], answered[FE_WINDOWS];
+static uint64_t passed, failed, made, met_count[CALLS][REPLIES], answered[FE_WINDOWS];
 
 static uint8_t data[TURN_MAX];
 static struct turn turn, other;
@@ -40,12 +40,12 @@ static struct turn turn, other;
 /* ---- what is new ---- */
 
 static int is_new_reply(const struct met *met) {
-    static uint8_t seen[CALLS * 14 * 131 * 32];
+    static uint8_t seen[CALLS * REPLIES * 131 * 32];
     uint32_t value = met->reply.value, size = 0, large = 0;
     for (uint32_t v = value; v; v >>= 1) size++;
     for (size_t v = met->length; v; v >>= 1) large++;
     if (met->reply.refusal == 0 && value < 64) size = 64 + value;
-    uint32_t key = ((met->call * 14u + met->reply.refusal) * 131u + size) * 32u + large;
+    uint32_t key = ((met->call * (uint32_t)REPLIES + met->reply.refusal) * 131u + size) * 32u + large;
     int new = !seen[key];
     seen[key] = 1;
     return new;

@@ -1,6 +1,8 @@
 /* Planted faults: each makes the library's call and does one thing wrong. */
 #include "planted.h"
 
+#include <string.h>
+
 static uint8_t look(const uint8_t *byte) {
     return *(const volatile uint8_t *)byte;
 }
@@ -214,6 +216,89 @@ static fe_reply second_link_first(const struct asked *a) {
     return reply.refusal == 10 || reply.refusal == 11 ? reply : make_call(a);
 }
 
+/* ---- changes ---- */
+
+/* Where the records of a done change's links end. */
+static uint8_t *links_end(const struct asked *a) {
+    return a->buffer.at + 5 + 8 * (size_t)two(a->buffer.at + 3);
+}
+
+static fe_reply old_index_back(const struct asked *a) {
+    fe_reply reply = make_call(a);
+    if (reply.refusal || a->buffer.length < a->read.length) return reply;
+    memcpy(a->buffer.at, a->read.at, a->read.length), reply.value = (uint32_t)a->read.length;
+    return reply;
+}
+
+/* The first link that is written goes to the end. */
+static fe_reply out_of_order(const struct asked *a) {
+    uint8_t first[8], *records = a->buffer.at + 5;
+    fe_reply reply = make_call(a);
+    if (reply.refusal) return reply;
+    memcpy(first, records, 8), memmove(records, records + 8, (size_t)(links_end(a) - records) - 8), memcpy(links_end(a) - 8, first, 8);
+    return reply;
+}
+
+/* Another link withdrawn: the last one. */
+static fe_reply last_withdrawn(const struct asked *a) {
+    struct asked other = *a;
+    fe_reply reply = make_call(a);
+    if (reply.refusal) return reply;
+    const uint8_t *record = a->read.at + 5 + 8 * (size_t)(two(a->read.at + 3) - 1);
+    other.number[0] = two(record + 1), other.number[1] = two(record + 3);
+    return make_call(&other);
+}
+
+static fe_reply one_order_only(const struct asked *a) {
+    fe_reply reply = make_call(a);
+    return reply.refusal == 0 && a->number[0] > a->number[1] ? (fe_reply){11, 0, 0, 0} : reply;
+}
+
+static fe_reply no_link_for_outside(const struct asked *a) {
+    fe_reply reply = make_call(a);
+    if (reply.refusal == 9) reply.refusal = 11;
+    return reply;
+}
+
+static fe_reply equal_for_no_link(const struct asked *a) {
+    fe_reply reply = make_call(a);
+    if (reply.refusal == 11 && a->number[0] == a->number[1]) reply.refusal = 5;
+    return reply;
+}
+
+static fe_reply equal_first(const struct asked *a) {
+    return a->number[0] == a->number[1] ? (fe_reply){5, 0, 0, 0} : make_call(a);
+}
+
+static fe_reply full_before_there(const struct asked *a) {
+    fe_reply reply = make_call(a);
+    if (reply.refusal == 14 && two(a->read.at + 3) == 2048) reply.refusal = 3;
+    return reply;
+}
+
+static fe_reply short_before_there(const struct asked *a) {
+    fe_reply reply = make_call(a);
+    if (reply.refusal == 14 && a->buffer.length < a->read.length) reply.refusal = 12;
+    return reply;
+}
+
+static fe_reply short_before_no_index(const struct asked *a) {
+    fe_reply reply = make_call(a);
+    if (reply.refusal == 7 && a->buffer.length == 0) reply.refusal = 12;
+    return reply;
+}
+
+static fe_reply looks_at_the_buffer(const struct asked *a) {
+    if (a->buffer.length < a->read.length) look(a->buffer.at + a->buffer.length);
+    return make_call(a);
+}
+
+static fe_reply begins_to_write(const struct asked *a) {
+    fe_reply reply = make_call(a);
+    if (reply.refusal == 12 && a->buffer.length) flip(a->buffer.at);
+    return reply;
+}
+
 /* ---- the tally ---- */
 
 static uint8_t *tally_of(const struct asked *a) {
@@ -398,6 +483,34 @@ const struct planted PLANTED[] = {
     {"the fourth account cut to two bytes", CHAIN, fourth_account_cut},
     {"12 at the chain's exact length", CHAIN, exact_is_12},
     {"the tally moved by two by G", CHAIN, tally_by_two},
+    {"a byte past the index read by a put in", PUT_IN, reads_past},
+    {"a byte before the index read by a withdrawal", WITHDRAW, reads_before},
+    {"an empty index read by a put in", PUT_IN, reads_empty},
+    {"an empty second buffer read", WITHDRAW, reads_empty_buffer},
+    {"a byte past a short second buffer read", PUT_IN, looks_at_the_buffer},
+    {"the old index written with its own bytes", PUT_IN, writes_what_it_read},
+    {"the old index written with its own bytes by a withdrawal", WITHDRAW, writes_what_it_read},
+    {"a byte past the second buffer written", PUT_IN, writes_past_buffer},
+    {"a byte before the second buffer written", WITHDRAW, writes_before_buffer},
+    {"a byte after the new index changed", PUT_IN, writes_after_result},
+    {"a byte after the lesser index changed", WITHDRAW, writes_after_result},
+    {"the second buffer changed by a refused put in", PUT_IN, refused_and_changed},
+    {"the second buffer changed by a refused withdrawal", WITHDRAW, refused_and_changed},
+    {"the second buffer changed by 12", PUT_IN, begins_to_write},
+    {"another last byte of the new index", WITHDRAW, other_last_byte},
+    {"the old index written back", PUT_IN, old_index_back},
+    {"links out of order", PUT_IN, out_of_order},
+    {"the last link withdrawn", WITHDRAW, last_withdrawn},
+    {"withdrawn in one order only", WITHDRAW, one_order_only},
+    {"11 for 9 of a withdrawal", WITHDRAW, no_link_for_outside},
+    {"5 for 11", WITHDRAW, equal_for_no_link},
+    {"5 before 7 and 9", PUT_IN, equal_first},
+    {"3 before 14", PUT_IN, full_before_there},
+    {"12 before 14", PUT_IN, short_before_there},
+    {"12 before 7 of a change", WITHDRAW, short_before_no_index},
+    {"12 at the new index's exact length", PUT_IN, exact_is_12},
+    {"an account put in cut to two bytes", PUT_IN, account_cut},
+    {"a third number of a change", WITHDRAW, third_number},
     {"another place of 6", BUILD, other_place},
     {"a third number", BUILD, third_number},
     {"12 at the exact length", BUILD, exact_is_12},

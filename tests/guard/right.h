@@ -22,6 +22,9 @@ void right_sorted(const uint8_t *file, uint8_t *sorted);
 /* Whether the bytes are an index. If so, `links` is the links file that it names, of `*links_len` bytes. */
 int right_index(const uint8_t *index, size_t length, uint8_t *links, size_t *links_len);
 
+/* The refusal of a change of these links but for 12; if there is none, `altered` is a links file of the altered ones, of `*altered_len` bytes. */
+fe_reply right_change(const struct asked *asked, const uint8_t *links, size_t links_len, uint8_t *altered, size_t *altered_len);
+
 /* The reply of a question that reads an index, from a window that there is, but for 12; done, `answer` has what C to G write. */
 fe_reply right_answer(const struct asked *asked, uint8_t *answer);
 

@@ -1,8 +1,9 @@
 /* One call between guard pages and the check of all that it did; turn.h says what is given.
  *
  * Of every call: the reply is the right one in all four numbers, a refused call changes no lent byte, a done one changes only the first `value` bytes of its
- * buffer and the four bytes of its window's tally, and these to what they must be. Of a build besides: what it wrote reads back as the sorted links file, and that builds to
- * the same bytes. A reading is right if it gives the links that the bytes name and if a build of these gives the bytes again (right.h). */
+ * buffer and the four bytes of its window's tally, and these to what they must be. Of a build and of a change besides: what it wrote reads back as the sorted links file,
+ * and that builds to the same bytes. A reading is right if it gives the links that the bytes name and if a build of these gives the bytes again (right.h); a change is
+ * right if it gives what a build of the altered links gives. */
 #define _POSIX_C_SOURCE 200809L
 #include "turn.h"
 #include "lent.h"
@@ -182,19 +183,32 @@ static int called(library *call, const struct asked *asked, fe_reply *reply) {
 
 /* ---- what is right ---- */
 
+/* The links file that a build or a change that is done stands for. */
+struct file {
+    uint8_t at[FE_LINKS_MAX];
+    size_t length;
+};
+
 /* What the call must give with a buffer that is long enough, and what it then writes there. */
-static fe_reply right(const struct asked *asked, uint8_t *result, struct met *met) {
+static fe_reply right(const struct asked *asked, uint8_t *result, struct file *file, struct met *met) {
     static uint8_t links[FE_LINKS_MAX];
     size_t links_len;
     if (asked->call == BUILD) {
         fe_reply reply = right_links(asked->read.at, asked->read.length);
         if (reply.refusal) return reply;
         met->made++;
-        return fe_build(asked->read.at, asked->read.length, result, FE_INDEX_MAX);
+        memcpy(file->at, asked->read.at, asked->read.length), file->length = asked->read.length;
+        return fe_build(file->at, file->length, result, FE_INDEX_MAX);
     }
     if (is_question(asked->call) && asked->window >= FE_WINDOWS) return (fe_reply){13, 0, 0, 0};
     met->made++;
     if (!right_index(asked->read.at, asked->read.length, links, &links_len)) return (fe_reply){7, 0, 0, 0};
+    if (is_change(asked->call)) {
+        fe_reply reply = right_change(asked, links, links_len, file->at, &file->length);
+        if (reply.refusal) return reply;
+        met->made++;
+        return fe_build(file->at, file->length, result, FE_INDEX_MAX);
+    }
     if (asked->call != READ) return right_answer(asked, result);
     memcpy(result, links, links_len);
     return (fe_reply){0, (uint32_t)links_len, 0, 0};
@@ -251,6 +265,7 @@ static const char *replies(fe_reply found, fe_reply wanted) {
 
 const char *turn_run(library *call, const struct turn *t, struct met *met) {
     static struct bytes given;
+    static struct file file;
     static uint8_t result[LENT_MAX], buffer[LENT_MAX], desk[LENT_MAX], accounts[TURN_ACCOUNTS];
     *met = (struct met){.call = t->call};
     given_bytes(t, &given, met);
@@ -263,7 +278,7 @@ const char *turn_run(library *call, const struct turn *t, struct met *met) {
     int is_inside = has_accounts(t->call) && t->lay & ACCOUNTS_INSIDE;
     if (is_inside) asked.accounts = (struct slice){given.at + inside, least(t->accounts_len, given.length - inside)};
 
-    fe_reply wanted = right(&asked, result, met);
+    fe_reply wanted = right(&asked, result, &file, met);
     int question = is_question(t->call), answered = wanted.refusal == 0;
     size_t length = answered && has_buffer(t->call) ? wanted.value : 0, room = room_of(t, length);
     if (answered && (room < length || (question && t->desk_len < FE_DESK))) wanted = (fe_reply){12, 0, 0, 0}, answered = 0;
@@ -283,6 +298,6 @@ const char *turn_run(library *call, const struct turn *t, struct met *met) {
     if (!called(call, &lending, &met->reply)) return fault;
     const char *what = replies(met->reply, wanted);
     if (!what) what = changes(&asked, answered, buffer, desk);
-    if (!what && t->call == BUILD && answered) what = there_and_back(given.at, given.length, result, length, met);
+    if (!what && answered && (t->call == BUILD || is_change(t->call))) what = there_and_back(file.at, file.length, result, length, met);
     return what;
 }

@@ -126,7 +126,7 @@ fn strip(accounts: u16) -> Pairs {
 }
 
 /// The same in a ring.
-fn ring(accounts: u16) -> Pairs {
+pub fn ring(accounts: u16) -> Pairs {
     let next = (0..accounts).flat_map(|a| [(a, (a + 1) % accounts), (a, (a + 2) % accounts)]);
     next.collect()
 }

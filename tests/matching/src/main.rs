@@ -1,18 +1,21 @@
 //! Matches the library's C calls against the reference, an independent program: build and reading on random, shuffled and damaged files and on files at the
-//! limits, random questions on the random indexes, good and damaged, questions with known answers, question G and the windows gone through in order; and the
-//! lister's text.
+//! limits, random questions and changes on the random indexes, good and damaged, questions with known answers, question G, the windows and the faults of changes gone
+//! through in order, long rows of changes; and the lister's text.
 //!
-//! With no word: all of it. With a number: the files and questions of that seed. With a name: that file at the limits, that known answer, or that part of what is
-//! gone through in order.
-//! The last line is `N passed, M failed`, one for each file and question compared and for each planted fault that the comparison must find.
+//! With no word: all of it. With a number: the files, questions and changes of that seed. With a name: that file at the limits, that known answer, that row, or that
+//! part of what is gone through in order.
+//! The last line is `N passed, M failed`, one for each file, question and change compared and for each planted fault that the comparison must find.
 
 mod asked;
 mod chains;
+mod changed;
+mod changes;
 mod known;
 mod lent;
 mod limits;
 mod listing;
 mod planted;
+mod planted_changes;
 mod planted_questions;
 mod questions;
 mod windows;
@@ -20,15 +23,17 @@ mod windows;
 use std::process::ExitCode;
 
 use asked::{Asker, Met};
+use changed::{Changer, Plain, Row};
 use lent::{compare_all, BUILD, RULES};
 use limits::Said;
 use questions::Asking;
 use reference::card::{links_file, Card};
 use reference::damage;
+use reference::index::Index;
 use reference::random::{card, shuffle_pairs, Random, Shape};
-use terminal::Question;
+use terminal::{Change, Question};
 
-/// Each seed makes a card, a shuffled copy of it and two damaged ones, and reads its index and a damaged one, and asks questions on both.
+/// Each seed makes a card, a shuffled copy of it and two damaged ones, and reads its index and a damaged one, and asks questions on both, and makes changes from both.
 const SEEDS: u64 = 6_000;
 
 /// One seed in so many has its indexes listed: that runs a program.
@@ -44,6 +49,7 @@ struct Count {
     /// Links files by what the reference says of them: 0 accepted, else refused by that number.
     met: [usize; 7],
     asked: Met,
+    changed: changed::Met,
 }
 
 impl Count {
@@ -90,6 +96,30 @@ impl Count {
         let found = asker.in_a_row(&in_a_row);
         self.add(word, index, &format!("{what} asked in a row"), found);
         self.asked.merge(&asker.met);
+    }
+
+    /// Makes the changes, each by itself, from an index of these links or from that index damaged. Those after a failure are left out.
+    fn change(
+        &mut self,
+        noise: &mut Random,
+        word: &str,
+        plain: &Plain,
+        index: &[u8],
+        changes: &[Change],
+    ) {
+        // Damage may leave the index of other links.
+        let read = Index::read(RULES, index).map(|index| Plain::of(&index.card()));
+        let (plain, is_index) = (read.as_ref().unwrap_or(plain), read.is_ok());
+        let mut changer = Changer::new(terminal::alter, noise, plain, index, is_index);
+        for &change in changes {
+            let found = changer.compare_all(change);
+            let failed = found.is_err();
+            self.add(word, index, &format!("{change:?}"), found);
+            if failed {
+                return;
+            }
+        }
+        self.changed.merge(&changer.met);
     }
 }
 
@@ -154,12 +184,32 @@ fn seed(count: &mut Count, seed: u64) {
         count.ask(&mut noise, &word, shape.1, &index, of_index);
         let what = format!("{} damaged index", shape.1);
         count.ask(&mut noise, &word, &what, &damaged, of_damaged);
+
+        // A change costs about two.
+        let number = match pairs.len() {
+            0..=80 => 3,
+            81..=400 => 2,
+            _ => random.below(2),
+        };
+        let plain = Plain::of(&Card::read(RULES, &whole).expect("a good card"));
+        let mut draw = |number| -> Vec<_> {
+            { 0..number }
+                .map(|_| changes::draw(&mut random, &plain))
+                .collect()
+        };
+        let (of_index, of_damaged) = (draw(number), draw(1));
+        count.change(&mut noise, &word, &plain, &index, &of_index);
+        count.change(&mut noise, &word, &plain, &damaged, &of_damaged);
     }
 }
 
 /// The comparison itself: it must find each fault planted in a call.
 fn planted_faults(count: &mut Count) {
-    for (name, found) in { planted::found().into_iter() }.chain(planted_questions::found()) {
+    let named = |(name, found): (&str, bool)| (name.to_string(), found);
+    let calls = planted::found()
+        .into_iter()
+        .chain(planted_questions::found());
+    for (name, found) in calls.map(named).chain(planted_changes::found()) {
         if found {
             count.passed += 1;
         } else {
@@ -255,6 +305,48 @@ fn in_order(count: &mut Count, only: Option<&str>) {
     }
 }
 
+/// Changes gone through in order, from an index and from a damaged one.
+fn changes_in_order(count: &mut Count, only: Option<&str>) {
+    let wanted = |name: &str| only.is_none_or(|only| only == name);
+    for lot in changes::all().iter().filter(|lot| wanted(lot.name)) {
+        let mut noise = Random::new(lot.changes.len() as u64);
+        let index = lot.plain.built();
+        // The strength of the first link, or the head.
+        let mut damaged = index.clone();
+        damaged[if lot.plain.pairs.is_empty() { 0 } else { 10 }] += 1;
+        count.change(&mut noise, lot.name, &lot.plain, &index, &lot.changes);
+        count.change(&mut noise, lot.name, &lot.plain, &damaged, &lot.changes);
+    }
+}
+
+/// Long rows of changes. Those after a failure are left out.
+fn rows(count: &mut Count, only: Option<&str>) {
+    let wanted = |name: &str| only.is_none_or(|only| only == name);
+    for long in changes::rows().iter().filter(|long| wanted(&long.name)) {
+        let [mut random, mut noise] = [1, 2].map(Random::new);
+        let mut row = Row::new(terminal::alter, &mut noise, long.plain.clone());
+        let mut sizes = vec![row.plain.pairs.len()];
+        for step in 0..long.steps {
+            let change = long.next(&mut random, &row.plain, &sizes);
+            let before = row.index().to_vec();
+            let found = row.change(change);
+            let failed = found.is_err();
+            let what = format!("change {step}, {change:?}");
+            count.add(&long.name, &before, &what, found);
+            if failed {
+                return;
+            }
+            sizes.push(row.plain.pairs.len());
+        }
+        let went = match long.went(&sizes) {
+            true => Ok(()),
+            false => Err("never had the links that it should have".to_string()),
+        };
+        count.add(&long.name, row.index(), "as a whole", went);
+        count.changed.merge(&row.met);
+    }
+}
+
 fn main() -> ExitCode {
     let mut count = Count::default();
     match std::env::args().nth(1) {
@@ -263,13 +355,15 @@ fn main() -> ExitCode {
             at_the_limits(&mut count, None);
             known_answers(&mut count, None);
             in_order(&mut count, None);
+            changes_in_order(&mut count, None);
+            rows(&mut count, None);
             (0..SEEDS).for_each(|number| seed(&mut count, number));
             println!(
                 "links files accepted, and refused by 1 to 6: {:?}",
                 count.met
             );
-            let asked = count.asked.show();
-            if count.met.contains(&0) || !asked {
+            let (asked, changed) = (count.asked.show(), count.changed.show());
+            if count.met.contains(&0) || !asked || !changed {
                 count.failed += 1;
                 println!("FAILED: some refusal or answer was never met");
             }
@@ -280,6 +374,8 @@ fn main() -> ExitCode {
                 at_the_limits(&mut count, Some(&word));
                 known_answers(&mut count, Some(&word));
                 in_order(&mut count, Some(&word));
+                changes_in_order(&mut count, Some(&word));
+                rows(&mut count, Some(&word));
             }
         },
     }

@@ -15,6 +15,19 @@ pub struct Asking {
     shared: Vec<u16>,
 }
 
+/// A number from n up, some of which would be an account if it were cut to two bytes.
+pub fn bad(random: &mut Random, accounts: u16) -> u32 {
+    let (n, good) = (u32::from(accounts), random.below(accounts.into()) as u32);
+    match random.below(6) {
+        0 => n,
+        1 => n + random.below(1_024) as u32,
+        2 => good + 0x1_0000 * random.within(1..=0xFFFF) as u32,
+        3 => u32::MAX - random.below(3) as u32,
+        4 => random.pick(&[0xFFFF, 0x1_0000, 0x8000_0000, 0xFFFF_0000]),
+        _ => n.max(random.number() as u32),
+    }
+}
+
 impl Asking {
     pub fn of(index: &[u8]) -> Asking {
         let index = Index::read(RULES, index).expect("the index of a good card");
@@ -135,17 +148,8 @@ impl Asking {
         random.below(self.index.accounts.into()) as u32
     }
 
-    /// A number from n up, some of which would be an account if it were cut to two bytes.
     fn bad(&self, random: &mut Random) -> u32 {
-        let (n, good) = (u32::from(self.index.accounts), self.good(random));
-        match random.below(6) {
-            0 => n,
-            1 => n + random.below(1_024) as u32,
-            2 => good + 0x1_0000 * random.within(1..=0xFFFF) as u32,
-            3 => u32::MAX - random.below(3) as u32,
-            4 => random.pick(&[0xFFFF, 0x1_0000, 0x8000_0000, 0xFFFF_0000]),
-            _ => n.max(random.number() as u32),
-        }
+        bad(random, self.index.accounts)
     }
 
     /// A level for two links: mostly the greatest at which they are joined, or one more.

@@ -1,7 +1,7 @@
 //! The calls of include/footballelm.h, as a C host makes them.
 
 /// So many requests of document 02 are in the library; the reference goes by this number.
-pub const REQUESTS: u8 = 3;
+pub const REQUESTS: u8 = 4;
 
 /// FE_INDEX_MAX, and FE_CHAIN_MAX, which is enough for any answer.
 pub const INDEX_MAX: usize = 40_960;
@@ -26,6 +26,22 @@ pub type Call = unsafe extern "C" fn(*const u8, usize, *mut u8, usize) -> Reply;
 extern "C" {
     pub fn fe_build(links: *const u8, links_len: usize, index: *mut u8, index_len: usize) -> Reply;
     pub fn fe_read(index: *const u8, index_len: usize, links: *mut u8, links_len: usize) -> Reply;
+    pub fn fe_put_in(
+        index: *const u8,
+        index_len: usize,
+        a: u32,
+        b: u32,
+        out: *mut u8,
+        out_len: usize,
+    ) -> Reply;
+    pub fn fe_withdraw(
+        index: *const u8,
+        index_len: usize,
+        a: u32,
+        b: u32,
+        out: *mut u8,
+        out_len: usize,
+    ) -> Reply;
     pub fn fe_strength(
         index: *const u8,
         index_len: usize,
@@ -114,6 +130,29 @@ pub fn build(links: &[u8], index: &mut [u8]) -> Reply {
 
 pub fn read(index: &[u8], links: &mut [u8]) -> Reply {
     unsafe { fe_read(index.as_ptr(), index.len(), links.as_mut_ptr(), links.len()) }
+}
+
+/// A link put in or withdrawn: two accounts in either order.
+#[derive(Clone, Copy, Debug, PartialEq, Eq)]
+pub enum Change {
+    PutIn((u32, u32)),
+    Withdraw((u32, u32)),
+}
+
+/// Makes the change by the call that is its own, from one slice into another.
+///
+/// # Safety
+/// Each slice is good memory; `out` may be written.
+pub unsafe fn alter(change: Change, (i, m): Slice, (o, r): Slice) -> Reply {
+    match change {
+        Change::PutIn((a, b)) => fe_put_in(i, m, a, b, o, r),
+        Change::Withdraw((a, b)) => fe_withdraw(i, m, a, b, o, r),
+    }
+}
+
+pub fn change(change: Change, index: &[u8], out: &mut [u8]) -> Reply {
+    let index = (index.as_ptr().cast_mut(), index.len());
+    unsafe { alter(change, index, (out.as_mut_ptr(), out.len())) }
 }
 
 /// A question with its numbers and, in C to E, the accounts as they are lent.
