@@ -1,5 +1,5 @@
 -- The two calls: what they promise, and the ways to it. Assumes nothing.
-use mathlib.Core.Path.{_≡_, refl, sym, ap, _∙_, subst}
+use mathlib.Core.Path.{_≡_, sym, ap, _∙_, subst}
 use mathlib.Core.Logic.{_⊎_, inl, inr, _≢_}
 use mathlib.Core.List.{List, map}
 use Prim.Native.Nat.{ℕ, _+_, _*_, _-_, _≤_, _<_}
@@ -16,7 +16,7 @@ use Rattle.truss.specs.Change.{Change, put-in, withdraw, withLink, withoutLink,
 use Rattle.truss.specs.Changes.{Faulty, put-equal, put-again, put-full, withdraw-none}
 use Rattle.laws.proofs.Members.{member-in, in-member}
 use Rattle.laws.proofs.Accepted.{graph-in}
-use Rattle.laws.proofs.Changes.{Altered, Fits, put-fits, withdraw-fits, accounts-of, altered-pairs, altered-named, faulty-altered, fits-altered, change-read}
+use Rattle.laws.proofs.Changes.{Altered, Fits, put-fits, withdraw-fits, accounts-of, altered-pairs, altered-named, faulty-altered, fits-altered, change-read, change-rule}
 use Rattle.columns.specs.Columns.{COLUMNS}
 use Rattle.columns.specs.Named.{Named}
 use Rattle.index.specs.declared.Reply.{Reply as CReply}
@@ -42,8 +42,7 @@ Alters c G out r after = replied r after ≡ changeOf c G out
 
 module _ (c : Change) (b out : List ℕ) where
   pub changes-7 : {r : CReply} → readIndex b ≡ refuse 7 0 → Replies r 7 0 → ChangeGives c b out r out
-  unfolding change mapPassed checkRoom andThen write
-  changes-7 q R = reply-with out R ∙ rw (q, andThen, mapPassed, checkRoom, write) refl
+  changes-7 q R = reply-with out R ∙ sym (change-rule .no-index c b out q)
 
   pub changes-of : {G : Graph} {r : CReply} {after : List ℕ} → readIndex b ≡ passed G → Alters c G out r after → ChangeGives c b out r after
   changes-of q A = A ∙ sym (change-read c b out q)
