@@ -25,7 +25,7 @@ use Rattle.columns.specs.Wiping.{Zeros, zeros, zeros-at, zeros-length}
 use Rattle.adjacency.specs.State.{Marks, Mark, none, some}
 use Rattle.adjacency.specs.Lists.{ListsDone, named-keyed}
 use Rattle.adjacency.specs.Marking.{MarkPre}
-use Rattle.stored.specs.Rows.{graphIn, IsIndex, few-links}
+use Rattle.stored.specs.Rows.{graphIn, IsIndex, index-order, few-links}
 use Rattle.wire.specs.Writing.{written}
 use Rattle.thirds.specs.Find.{FindPre}
 use Rattle.thirds.specs.Look.{Keyed, keyed}
@@ -34,7 +34,7 @@ use Rattle.chain.specs.Follow.{followed, followed-length, first-way, no-
 use Rattle.chain.specs.Search.{nearest, sides, NEAREST, Given, SearchPre, Searched}
 use Rattle.chain.specs.Write.{WriteAsks, nothing, something, ChainGives}
 use Rattle.chain.specs.Strong.{strongOf, member-strong, strong-heavy, heavy-strong, strong-fewer}
-use Rattle.chain.specs.Load.{LoadGives, loaded-given, index-order}
+use Rattle.chain.specs.Load.{LoadGives, loaded-given}
 
 -- ---- the entries
 

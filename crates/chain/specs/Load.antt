@@ -6,21 +6,14 @@ use Prim.Native.Nat.{ℕ, _+_, _*_, _≤_, _<_}
 use native.Mathlib.Omega.{arith}
 use lib.ListN.{length, getD, List·getD-append}
 use lib.Seq.{getD-at}
-use Rattle.truss.specs.Record.{fieldAt}
 use Rattle.truss.specs.Graph.{Link, Graph, link, linkAt}
 use Rattle.laws.proofs.Numbers.{same-or-not}
 use Rattle.laws.proofs.Groups.{size, strengthAt}
-use Rattle.laws.proofs.InOrder.{graph-in-order}
-use Rattle.laws.proofs.Sides.{InOrder}
 use Rattle.columns.specs.Columns.{cell, store, KEY, HALF, COLUMNS, linkBound}
 use Rattle.columns.specs.Laws.{stored, kept-entry, kept-column, length-store}
-use Rattle.index.specs.Open.{pairsIn}
-use Rattle.stored.specs.Rows.{graphIn, IsIndex, few-links, few-accounts}
+use Rattle.stored.specs.Rows.{graphIn, IsIndex, index-order, few-links, few-accounts}
 use Rattle.chain.specs.Search.{Given}
 use Rattle.chain.specs.Strong.{strongOf, strongTo, strong-none, strong-all, strong-within, strong-skip, strong-take, strong-count, strong-order, strong-fewer, strong-accounts}
-
-pub index-order : {s : List ℕ} → IsIndex s → InOrder (graphIn s)
-index-order {s} I = graph-in-order (fieldAt s 1) (pairsIn s (fieldAt s 3)) (I .accepted .good)
 
 -- a link's key
 abbrev pub linkKey : Link → ℕ

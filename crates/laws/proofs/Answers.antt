@@ -1,22 +1,22 @@
 -- What the answers to questions B to F mean: which groups and links are listed, that repeats change nothing, that an account without links is in no
--- group. And that a tally reads back as it was written.
+-- group. And when two accounts are refused by 9; and that a tally reads back as it was written.
 use mathlib.Core.Path.{_≡_, refl, sym, ap, _∙_, subst}
 use mathlib.Core.Logic.{_⊎_, inl, inr, _↔_}
 use mathlib.Core.Bool.{Bool, true, false, cond, _&&_, _||_, not}
-use mathlib.Core.List.{List, [], _++_}
+use mathlib.Core.List.{List, [], _∷_, _++_}
 use mathlib.Core.List.{List·Memᴰ as In}
 use Prim.Native.Nat.{ℕ, _+_, _*_, _/_, _%_, _≤_, _<_}
 use native.Mathlib.Nat.{le-antisymm, le-refl, div-div-eq-div-mul, div-add-mod'}
 use native.Mathlib.Omega.{arith}
 use lib.Dec.{ltb, leb}
 use lib.ListN.{length, getD}
-use borrow.Author.Tests.{leb-true, leb-false, le-leb, ltb-true, ltb-false}
+use borrow.Author.Tests.{leb-true, leb-false, le-leb, lt-leb, ltb-true, ltb-false}
 use Rattle.truss.specs.Limits.{minLevel, maxTally}
-use Rattle.truss.specs.Lists.{all, range}
+use Rattle.truss.specs.Lists.{any, all, range}
 use Rattle.truss.specs.Graph.{Link, Graph, linkAt, ends, member}
 use Rattle.truss.specs.Strength.{strength}
 use Rattle.truss.specs.Group.{Group, groups, groupAt, leastLink}
-use Rattle.truss.specs.Question.{joinedUpTo, holds, holdsAll, emptyGroup, numbersOf, isGroupAt, groupsHolding, strongestHolding, allHolding}
+use Rattle.truss.specs.Question.{outside, joinedUpTo, holds, holdsAll, emptyGroup, numbersOf, isGroupAt, groupsHolding, strongestHolding, allHolding}
 use Rattle.truss.specs.Call.{tallyBytes, tallyIn}
 use Rattle.laws.proofs.Proper.{Proper}
 use Rattle.laws.proofs.Lists.{test, bool-same, both, true-not-false, and-left, and-right}
@@ -26,6 +26,22 @@ use Rattle.laws.proofs.Chains.{strength-at-least, at-least-strength}
 use Rattle.laws.proofs.Groups.{size, strengthAt, group-self, group-rebase}
 use Rattle.laws.proofs.Stored.{groupCount, stored, stored-number}
 use Rattle.laws.proofs.Meaning.{joined-up-to-max, joined-up-to-is}
+
+-- ---- 9, of two accounts
+
+module _ (G : Graph) (a b : ℕ) where
+  pub is-outside : (G .n ≤ a) ⊎ (G .n ≤ b) → outside G (a ∷ b ∷ []) ≡ true
+  unfolding outside any
+  is-outside (inl l) = rw (le-leb (G .n) a l) refl
+  is-outside (inr l) = go (leb (G .n) a)
+    where
+      go : (t : Bool) → cond t true (cond (leb (G .n) b) true false) ≡ true
+      go true = refl
+      go false = rw (le-leb (G .n) b l) refl
+
+  pub not-outside : a < G .n → b < G .n → outside G (a ∷ b ∷ []) ≡ false
+  unfolding outside any
+  not-outside l h = rw (lt-leb (G .n) a l, lt-leb (G .n) b h) refl
 
 -- ---- the groups that pass a test
 

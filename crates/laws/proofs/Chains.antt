@@ -1,17 +1,18 @@
 -- Laws of strong triangles and of links joined at k.
-use mathlib.Core.Path.{_≡_, refl}
+use mathlib.Core.Path.{_≡_, refl, sym, subst}
 use mathlib.Core.Logic.{_⊎_, inl, inr}
-use mathlib.Core.Bool.{true, false, _&&_}
+use mathlib.Core.Bool.{true, cond, _&&_}
 use Prim.Native.Nat.{ℕ, _≤_, _<_}
 use native.Mathlib.Nat.{min-eq-left, min-eq-right, max-eq-left, max-eq-right, le-min}
 use native.Mathlib.Omega.{arith}
 use lib.Dec.{ltb}
-use borrow.Author.Tests.{ltb-true, ltb-false}
+use borrow.Author.Tests.{lt-ltb, le-ltb}
 use Rattle.truss.specs.Graph.{Link, LinkSet, Graph, Triangle, IsTriangle, Has, is-ab, is-ac, is-bc, link, sideAB, sideAC, sideBC, member, support}
 use Rattle.truss.specs.Strength.{IsTruss, InTruss, strength, weight}
 use Rattle.truss.specs.Chain.{AtLeast, StrongTriangle, Joined, one-triangle, and-on}
 use Rattle.laws.proofs.Proper.{Proper}
-use Rattle.laws.proofs.Lists.{and-left, and-right, count-some, test}
+use Rattle.laws.proofs.Lists.{and-left, and-right, count-some}
+use Rattle.laws.proofs.Numbers.{less-or-not}
 use Rattle.laws.proofs.Peeling.{strength-is, strength-unique}
 
 -- ---- the link of two accounts
@@ -21,6 +22,37 @@ link-ordered a b h = λ i. record { lo = min-eq-left h i; hi = max-eq-right h i 
 
 pub link-swapped : (a b : ℕ) → b ≤ a → link a b ≡ record { lo = b; hi = a }
 link-swapped a b h = λ i. record { lo = min-eq-right h i; hi = max-eq-left h i }
+
+-- ---- the triangle of a link and a third account
+
+unfoldable pub corner : Link → ℕ → Triangle
+corner e c = cond (ltb c (e .lo)) (record { a = c; b = e .lo; c = e .hi }) (cond (ltb (e .hi) c) (record { a = e .lo; b = e .hi; c = c }) (record { a = e .lo; b = c; c = e .hi }))
+
+module _ (e : Link) (c : ℕ) where
+  pub corner-below : c < e .lo → corner e c ≡ record { a = c; b = e .lo; c = e .hi }
+  unfolding corner
+  corner-below l = rw (lt-ltb c (e .lo) l) refl
+
+  pub corner-between : e .lo ≤ c → c ≤ e .hi → corner e c ≡ record { a = e .lo; b = c; c = e .hi }
+  unfolding corner
+  corner-between l h = rw (le-ltb c (e .lo) l, le-ltb (e .hi) c h) refl
+
+  pub corner-above : e .lo < e .hi → e .hi < c → corner e c ≡ record { a = e .lo; b = e .hi; c = c }
+  unfolding corner
+  corner-above r l = rw (le-ltb c (e .lo) (omega (arith, r)), lt-ltb (e .hi) c l) refl
+
+pub data Place (e : Link) (c : ℕ) : Type 0 where
+  is-below : c < e .lo → Place e c
+  is-between : e .lo ≤ c → c ≤ e .hi → Place e c
+  is-above : e .hi < c → Place e c
+
+pub place : (e : Link) (c : ℕ) → Place e c
+place e c = go (less-or-not c (e .lo)) (less-or-not (e .hi) c)
+  where
+    go : (c < e .lo) ⊎ (e .lo ≤ c) → (e .hi < c) ⊎ (c ≤ e .hi) → Place e c
+    go (inl l) y = is-below l
+    go (inr l) (inl h) = is-above h
+    go (inr l) (inr h) = is-between l h
 
 -- ---- strength at least k
 
@@ -73,56 +105,47 @@ module _ (G : Graph) (k : ℕ) where
   has-strong t e s (is-ac p) = rw p (s .ac-strong)
   has-strong t e s (is-bc p) = rw p (s .bc-strong)
 
-  -- A link of strength at least k, from 3 up, is in a triangle of weight at least k.
-  module _ (proper : Proper G) where
-    -- three links of one set that serves at k make a strong triangle
-    pub from-set : (S : LinkSet) → IsTruss G k S → (t : Triangle) → S (sideAB t) ≡ true → S (sideAC t) ≡ true → S (sideBC t) ≡ true → StrongTriangle G k t
-    from-set S i t p q r = record {
-      is-triangle = record { has-ab = i .within (sideAB t) p; has-ac = i .within (sideAC t) q; has-bc = i .within (sideBC t) r };
-      ab-strong = at-least-of-truss G k (sideAB t) (S, i, p);
-      ac-strong = at-least-of-truss G k (sideAC t) (S, i, q);
-      bc-strong = at-least-of-truss G k (sideBC t) (S, i, r);
-    }
+  -- three links of strength at least k
+  of-links : (t : Triangle) → AtLeast G k (sideAB t) → AtLeast G k (sideAC t) → AtLeast G k (sideBC t) → StrongTriangle G k t
+  of-links t p q r = record {
+    is-triangle = record { has-ab = link-of-at-least G k (sideAB t) p; has-ac = link-of-at-least G k (sideAC t) q; has-bc = link-of-at-least G k (sideBC t) r };
+    ab-strong = p;
+    ac-strong = q;
+    bc-strong = r;
+  }
 
+  abbrev pub Holding : Link → Triangle → Type 0
+  Holding e t = StrongTriangle G k t × Has t e
+
+  module _ (proper : Proper G) where
+    -- a link and a third account: its triangle is strong if the three links are
+    pub corner-strong : (e : Link) → AtLeast G k e → (c : ℕ) → AtLeast G k (link (e .lo) c) → AtLeast G k (link (e .hi) c) → Holding e (corner e c)
+    corner-strong e strong c low high = go (place e c)
+      where
+        rises : e .lo < e .hi
+        rises = proper .ordered e (link-of-at-least G k e strong)
+
+        go : Place e c → Holding e (corner e c)
+        go (is-below l) =
+            subst (Holding e) (sym (corner-below e c l))
+            (of-links _ (subst (AtLeast G k) (link-swapped (e .lo) c (omega arith)) low) (subst (AtLeast G k) (link-swapped (e .hi) c (omega (arith, rises))) high) strong, is-bc refl)
+        go (is-between l h) =
+            subst (Holding e) (sym (corner-between e c l h))
+            (of-links _ (subst (AtLeast G k) (link-ordered (e .lo) c l) low) strong (subst (AtLeast G k) (link-swapped (e .hi) c h) high), is-ac refl)
+        go (is-above l) =
+            subst (Holding e) (sym (corner-above e c rises l))
+            (of-links _ strong (subst (AtLeast G k) (link-ordered (e .lo) c (omega (arith, rises))) low) (subst (AtLeast G k) (link-ordered (e .hi) c (omega arith)) high), is-ab refl)
+
+    -- A link of strength at least k, from 3 up, is in a triangle of weight at least k.
     pub in-strong-triangle : 3 ≤ k → (e : Link) → AtLeast G k e → (t : Triangle) × StrongTriangle G k t × Has t e
     unfolding support
-    in-strong-triangle three e x = go (test (ltb c (e .lo))) (test (ltb (e .hi) c))
-      where
-        set : InTruss G k e
-        set = truss-of-at-least G k e x
-
-        S : LinkSet
-        S = set .0
-
-        third : (c : ℕ) × (c < G .n) × ((S (link (e .lo) c) && S (link (e .hi) c)) ≡ true)
-        third = count-some _ (G .n) (omega (arith, three, set .1 .held e (set .2)))
-
-        c : ℕ
-        c = third .0
-
-        left : S (link (e .lo) c) ≡ true
-        left = and-left (S (link (e .lo) c)) (S (link (e .hi) c)) (third .2)
-
-        right : S (link (e .hi) c) ≡ true
-        right = and-right (S (link (e .lo) c)) (S (link (e .hi) c)) (third .2)
-
-        lo<hi : e .lo < e .hi
-        lo<hi = proper .ordered e (set .1 .within e (set .2))
-
-        go : (ltb c (e .lo) ≡ true) ⊎ (ltb c (e .lo) ≡ false) → (ltb (e .hi) c ≡ true) ⊎ (ltb (e .hi) c ≡ false) → (t : Triangle) × StrongTriangle G k t × Has t e
-        go (inl u) v =
-            let l : c < e .lo = ltb-true c (e .lo) u in
-            let t : Triangle = record { a = c; b = e .lo; c = e .hi } in
-            (t, from-set S (set .1) t (rw (link-swapped (e .lo) c (omega (arith, lo<hi))) at left) (rw (link-swapped (e .hi) c (omega (arith, lo<hi))) at right) (set .2), is-bc refl)
-        go (inr u) (inl v) =
-            let l : e .hi < c = ltb-true (e .hi) c v in
-            let t : Triangle = record { a = e .lo; b = e .hi; c = c } in
-            (t, from-set S (set .1) t (set .2) (rw (link-ordered (e .lo) c (omega (arith, lo<hi))) at left) (rw (link-ordered (e .hi) c (omega (arith, lo<hi))) at right), is-ab refl)
-        go (inr u) (inr v) =
-            let l : e .lo ≤ c = ltb-false c (e .lo) u in
-            let r : c ≤ e .hi = ltb-false (e .hi) c v in
-            let t : Triangle = record { a = e .lo; b = c; c = e .hi } in
-            (t, from-set S (set .1) t (rw (link-ordered (e .lo) c l) at left) (set .2) (rw (link-swapped (e .hi) c r) at right), is-ac refl)
+    in-strong-triangle three e x =
+        let (S, i, h) = truss-of-at-least G k e x in
+        let (c, _, both) = count-some (λ c. S (link (e .lo) c) && S (link (e .hi) c)) (G .n) (omega (arith, three, i .held e h)) in
+        let f = link (e .lo) c in
+        let g = link (e .hi) c in
+        let r = corner-strong e x c (at-least-of-truss G k f (S, i, and-left (S f) (S g) both)) (at-least-of-truss G k g (S, i, and-right (S f) (S g) both)) in
+        (corner e c, r .0, r .1)
 
 -- ---- joined at k: an equivalence on the links of strength at least k, for k from 3 up
 

@@ -2,11 +2,11 @@
 use mathlib.Core.Path.{_≡_, refl, sym, ap, _∙_, subst}
 use mathlib.Core.Logic.{_⊎_, inl, inr, _≢_}
 use mathlib.Core.Bool.{Bool, true, false, cond, not, _&&_, _||_}
-use mathlib.Core.List.{List, [], _∷_, map}
+use mathlib.Core.List.{List, _∷_, map}
 use mathlib.Core.List.{List·Memᴰ as In, List·Memᴰ·cases-cons as in-cons}
 use Prim.Native.Nat.{ℕ, _≤_, _<_, min, max}
 use native.Mathlib.Omega.{arith}
-use lib.Dec.{ltb, leb}
+use lib.Dec.{ltb}
 use lib.ListN.{length, take, drop}
 use lib.Seq.{take-append-seam}
 use borrow.Author.Tests.{le-leb, lt-leb, eq-eqb, ne-eqb, le-ltb}
@@ -17,7 +17,6 @@ use Rattle.truss.specs.Refusal.{Checked, passed, refuse, andThen, mapPassed}
 use Rattle.truss.specs.LinksFile.{accepted, readLinks, writeLinks}
 use Rattle.truss.specs.Index.{indexBytes}
 use Rattle.truss.specs.IndexFile.{IsIndexOf, readIndex}
-use Rattle.truss.specs.Question.{outside}
 use Rattle.truss.specs.Call.{Written, done, write, checkRoom, build}
 use Rattle.truss.specs.Windows.{refusedBy}
 use Rattle.truss.specs.Demand3.{HasLink, Builds}
@@ -28,6 +27,7 @@ use Rattle.laws.proofs.Numbers.{same-or-not, less-or-not}
 use Rattle.laws.proofs.Members.{filter-in, in-filter, map-in, in-map, sort-in, in-sort, sort-sorted, member-in, in-member}
 use Rattle.laws.proofs.Ordering.{NotAfter, not-after-trans, not-after-antisym, before-yes, before-no, sort-distinct, sorted-unique, insert-length}
 use Rattle.laws.proofs.Stored.{filter-sorted}
+use Rattle.laws.proofs.Answers.{is-outside, not-outside}
 use Rattle.laws.proofs.Accepted.{GoodPairs, Named, read-named, graph-in, in-graph, graph-size, links-distinct}
 use Rattle.laws.proofs.Agree.{same-graph}
 use Rattle.laws.proofs.Reading.{write-read, read-index, read-only}
@@ -38,20 +38,6 @@ use Rattle.laws.proofs.Demand3.{only-short-memory}
 pub data Fits (G : Graph) : Change → Graph → Type 0 where
   put-fits : {a b : ℕ} → a < G .n → b < G .n → a ≢ b → member (G .links) (link a b) ≡ false → length (G .links) < maxLinks → Fits G (put-in a b) (withLink G (link a b))
   withdraw-fits : {a b : ℕ} → a < G .n → b < G .n → member (G .links) (link a b) ≡ true → Fits G (withdraw a b) (withoutLink G (link a b))
-
-module _ (G : Graph) (a b : ℕ) where
-  is-outside : (G .n ≤ a) ⊎ (G .n ≤ b) → outside G (a ∷ b ∷ []) ≡ true
-  unfolding outside any
-  is-outside (inl l) = rw (le-leb (G .n) a l) refl
-  is-outside (inr l) = go (leb (G .n) a)
-    where
-      go : (t : Bool) → cond t true (cond (leb (G .n) b) true false) ≡ true
-      go true = refl
-      go false = rw (le-leb (G .n) b l) refl
-
-  not-outside : a < G .n → b < G .n → outside G (a ∷ b ∷ []) ≡ false
-  unfolding outside any
-  not-outside l h = rw (lt-leb (G .n) a l, lt-leb (G .n) b h) refl
 
 pub faulty-altered : {G : Graph} {c : Change} {k : ℕ} → Faulty G c k → altered c G ≡ refuse k 0
 unfolding altered

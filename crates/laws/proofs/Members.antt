@@ -1,16 +1,16 @@
--- Which elements the list functions of specs/Basic.antt give, and sorted lists. `In x xs` is mathlib's membership as a derivation.
+-- Which elements the list functions of truss/specs/Lists give, and sorted lists. `In x xs` is mathlib's membership as a derivation.
 use mathlib.Core.Path.{_≡_, refl, sym, ap, _∙_}
 use mathlib.Core.Logic.{_⊎_, inl, inr, _≢_}
 use mathlib.Core.Bool.{Bool, true, false, cond}
 use mathlib.Core.List.{List, [], _∷_, _++_, map}
 use mathlib.Core.List.{List·Memᴰ as In, List·Memᴰ·head as here, List·Memᴰ·tail as there, List·Memᴰ·not-nil as in-nil, List·Memᴰ·cases-cons as in-cons, Memᴰ·append-left as in-left, Memᴰ·append-right as in-right, List·Memᴰ·append-cases as in-append}
 use Prim.Native.Nat.{ℕ, zero, suc, _+_, _≤_, _<_, suc-le-suc}
-use native.Mathlib.Nat.{not-suc-le-zero, le-of-suc-le-suc, zero-lt-suc}
+use native.Mathlib.Nat.{not-suc-le-zero, le-of-suc-le-suc, zero-lt-suc, zero-add}
 use native.Mathlib.Omega.{arith}
 use lib.Dec.{eqb}
 use lib.ListN.{length, getD}
 use borrow.Author.Tests.{eqb-true, eqb-false}
-use Rattle.truss.specs.Lists.{filter, any, position, insert, sort, concatMap, range}
+use Rattle.truss.specs.Lists.{filter, any, position, insert, sort, concatMap, range, count}
 use Rattle.truss.specs.Graph.{Link, Graph, link, sameLink, member, linkNumber, linkAt}
 use Rattle.laws.proofs.Lists.{test, any-cons, any-here, any-there, sameLink-eq, sameLink-refl, true-not-false}
 
@@ -200,6 +200,28 @@ pub range-last : (a n : ℕ) → range a (suc n) ≡ range a n ++ ((a + n) ∷ [
 unfolding range
 range-last a zero = ap (λ (x : ℕ). x ∷ []) (omega arith)
 range-last a (suc n) = ap {B = List ℕ} (λ r. a ∷ r) (range-last (suc a) n ∙ ap (λ (x : ℕ). range (suc a) n ++ (x ∷ [])) (omega arith))
+
+-- how many numbers below n pass is how long the list of them is
+filter-last : (p : ℕ → Bool) (xs : List ℕ) (x : ℕ) → length (filter p (xs ++ (x ∷ []))) ≡ cond (p x) 1 0 + length (filter p xs)
+unfolding filter
+filter-last p [] x = go (p x)
+  where
+    go : (t : Bool) → length (cond t (x ∷ []) []) ≡ cond t 1 0 + 0
+    go true = refl
+    go false = refl
+filter-last p (y ∷ ys) x = go (p y) (filter-last p ys x)
+  where
+    go : (t : Bool) → length (filter p (ys ++ (x ∷ []))) ≡ cond (p x) 1 0 + length (filter p ys)
+        → length (cond t (y ∷ filter p (ys ++ (x ∷ []))) (filter p (ys ++ (x ∷ [])))) ≡ cond (p x) 1 0 + length (cond t (y ∷ filter p ys) (filter p ys))
+    go true ih = omega (arith, ih)
+    go false ih = ih
+
+pub count-filter : (p : ℕ → Bool) (n : ℕ) → length (filter p (range 0 n)) ≡ count p n
+unfolding count filter range
+count-filter p zero = refl
+count-filter p (suc n) =
+    ap (λ (xs : List ℕ). length (filter p xs)) (range-last 0 n ∙ ap (λ (x : ℕ). range 0 n ++ (x ∷ [])) (zero-add n))
+    ∙ filter-last p (range 0 n) n ∙ ap (λ (x : ℕ). cond (p n) 1 0 + x) (count-filter p n)
 
 -- a list with an element has a first
 pub first-in : (xs : List ℕ) {j : ℕ} → In j xs → In (getD xs 0 0) xs

@@ -173,11 +173,11 @@ side-has t {e} m = first (in-cons m)
     first (inl q) = is-ab q
     first (inr n) = second (in-cons n)
 
-touches-in : (L : List Link) (t : Triangle) → touches L t ≡ true → (l : Link) × In l L × Has t l
+pub touches-in : (L : List Link) (t : Triangle) → touches L t ≡ true → (l : Link) × In l L × Has t l
 unfolding touches
 touches-in L t h = let r = any-in (member L) (sides t) h in (r .0, member-in L (r .0) (r .2), side-has t (r .1))
 
-in-touches : (L : List Link) (t : Triangle) {l : Link} → In l L → Has t l → touches L t ≡ true
+pub in-touches : (L : List Link) (t : Triangle) {l : Link} → In l L → Has t l → touches L t ≡ true
 unfolding touches
 in-touches L t m h = in-any (member L) (sides t) (has-side t h) (in-member L m)
 

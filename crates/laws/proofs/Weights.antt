@@ -6,14 +6,14 @@ use mathlib.Core.List.{List·Memᴰ as In, List·Memᴰ·head as here}
 use Prim.Native.Nat.{ℕ, _+_, _≤_, _<_, min, max}
 use native.Mathlib.Nat.{le-refl}
 use native.Mathlib.Omega.{arith}
-use Rattle.truss.specs.Graph.{Link, LinkSet, Graph, Triangle, Has, is-ab, is-ac, is-bc, sideAB, sideAC, link, sameLink, member, linkNumber, linkAt, support, triangles}
+use Rattle.truss.specs.Graph.{Link, LinkSet, Graph, Triangle, IsTriangle, Has, is-ab, is-ac, is-bc, sideAB, sideAC, sideBC, link, sameLink, member, linkNumber, linkAt, support, triangles}
 use Rattle.truss.specs.Strength.{IsTruss, strength, weight}
 use Rattle.truss.specs.Chain.{StrongTriangle}
 use Rattle.truss.specs.Forest.{Join, join, joinBefore, triangleJoins, allJoins}
 use Rattle.laws.proofs.Lists.{true-not-false, or-cases, both, sameLink-eq, sameLink-refl}
-use Rattle.laws.proofs.Members.{in-concatMap, in-sort}
+use Rattle.laws.proofs.Members.{in-concatMap, in-sort, number-lt, link-of-number}
 use Rattle.laws.proofs.Peeling.{strength-is, strength-at-most}
-use Rattle.laws.proofs.Chains.{link-ordered, strength-at-least, in-strong-triangle, weight-of-strong}
+use Rattle.laws.proofs.Chains.{link-ordered, strength-at-least, strong-of-weight, in-strong-triangle, weight-of-strong}
 use Rattle.laws.proofs.Connected.{in-triangles}
 use Rattle.laws.proofs.Groups.{size, strengthAt}
 use Rattle.laws.proofs.Size.{count-fewer}
@@ -152,6 +152,29 @@ module _ (G : Graph) (o : InOrder G) {e f g : ℕ} (s : Sides G e f g) where
       )
 
 module _ (G : Graph) (o : InOrder G) where
+  pub triangle-three : (t : Triangle) → IsTriangle (member (G .links)) t → StrongTriangle G 3 t
+  unfolding weight sidesWeight
+  triangle-three t i = strong-of-weight G 3 t i (omega (arith, sides-three G o numbers, ap (strength G) ab, ap (strength G) ac, ap (strength G) bc))
+    where
+      ab : linkAt G (linkNumber G (sideAB t)) ≡ sideAB t
+      ab = link-of-number G (sideAB t) (i .has-ab)
+
+      ac : linkAt G (linkNumber G (sideAC t)) ≡ sideAC t
+      ac = link-of-number G (sideAC t) (i .has-ac)
+
+      bc : linkAt G (linkNumber G (sideBC t)) ≡ sideBC t
+      bc = link-of-number G (sideBC t) (i .has-bc)
+
+      numbers : Sides G (linkNumber G (sideAB t)) (linkNumber G (sideAC t)) (linkNumber G (sideBC t))
+      numbers = record {
+        e-in = number-lt G (sideAB t) (i .has-ab);
+        f-in = number-lt G (sideAC t) (i .has-ac);
+        g-in = number-lt G (sideBC t) (i .has-bc);
+        low = ap (λ (x : Link). x .lo) ac ∙ sym (ap (λ (x : Link). x .lo) ab);
+        middle = ap (λ (x : Link). x .lo) bc ∙ sym (ap (λ (x : Link). x .hi) ab);
+        high = ap (λ (x : Link). x .hi) bc ∙ sym (ap (λ (x : Link). x .hi) ac);
+      }
+
   pub join-three : {y : Join} → In y (allJoins G) → 3 ≤ y .weight
   join-three {y} m = let r = join-of G o m in omega (arith, r .weighs, sides-three G o (r .sides))
 

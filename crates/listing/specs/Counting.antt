@@ -2,11 +2,10 @@
 use mathlib.Core.Path.{_≡_, refl, sym, ap, _∙_, subst}
 use mathlib.Core.Logic.{_⊎_, inl, inr, _≢_}
 use mathlib.Core.Bool.{Bool, true, false, cond, _||_}
-use mathlib.Core.List.{List, [], _∷_, _++_}
+use mathlib.Core.List.{List}
 use mathlib.Core.List.{List·Memᴰ as In}
 use Prim.Native.Nat.{ℕ, zero, suc, _+_, _*_, _-_, _≤_, _<_, min, max}
 use native.Mathlib.Numerals.{add-one}
-use native.Mathlib.Nat.{zero-add}
 use native.Mathlib.Omega.{arith}
 use lib.Dec.{eqb}
 use lib.ListN.{length}
@@ -20,7 +19,7 @@ use Rattle.truss.specs.Question.{holds}
 use Rattle.laws.proofs.Lists.{test, bool-same, true-not-false, or-cases}
 use Rattle.laws.proofs.Numbers.{same-or-not, less-or-not}
 use Rattle.laws.proofs.Sets.{any-number}
-use Rattle.laws.proofs.Members.{range-last, any-in, in-any, filter-in, in-filter, in-range, in-member, getD-in, link-of-number}
+use Rattle.laws.proofs.Members.{count-filter, any-in, in-any, filter-in, in-filter, in-range, in-member, getD-in, link-of-number}
 use Rattle.laws.proofs.Lowering.{count-same}
 use Rattle.laws.proofs.Groups.{size, groupAt-eq, group-strong}
 use Rattle.laws.proofs.Stored.{groupCount, stored, stored-at, stored-in}
@@ -98,27 +97,8 @@ links-more {b} {m} {count} {c} {i} {w} {w′} R L = record {
 
 -- ---- they are its length
 
-filter-length : (p : ℕ → Bool) (xs : List ℕ) (x : ℕ) → length (filter p (xs ++ (x ∷ []))) ≡ cond (p x) 1 0 + length (filter p xs)
-unfolding filter
-filter-length p [] x = go (p x)
-  where
-    go : (t : Bool) → length (cond t (x ∷ []) []) ≡ cond t 1 0 + 0
-    go true = refl
-    go false = refl
-filter-length p (y ∷ ys) x = go (p y) (filter-length p ys x)
-  where
-    go : (t : Bool) → length (filter p (ys ++ (x ∷ []))) ≡ cond (p x) 1 0 + length (filter p ys)
-        → length (cond t (y ∷ filter p (ys ++ (x ∷ []))) (filter p (ys ++ (x ∷ [])))) ≡ cond (p x) 1 0 + length (cond t (y ∷ filter p ys) (filter p ys))
-    go true ih = omega (arith, ih)
-    go false ih = ih
-
-how-many-filter : (p : ℕ → Bool) (n : ℕ) → length (filter p (range 0 n)) ≡ howMany p n
-unfolding howMany filter range
-how-many-filter p zero = refl
-how-many-filter p (suc n) = ap (λ (xs : List ℕ). length (filter p xs)) (range-last 0 n ∙ ap (λ (x : ℕ). range 0 n ++ (x ∷ [])) (zero-add n)) ∙ filter-length p (range 0 n) n ∙ ap (λ (x : ℕ). cond (p n) 1 0 + x) (how-many-filter p n)
-
 pub group-length : (G : Graph) (h : ℕ) → h < groupCount G → howMany (memberOf G h) (size G) ≡ length (stored G h .members)
-group-length G h l = count-same (memberOf G h) q (size G) same ∙ sym (ap length is ∙ how-many-filter q (size G))
+group-length G h l = count-same (memberOf G h) q (size G) same ∙ sym (ap length is ∙ count-filter q (size G))
   where
     k : ℕ
     k = stored G h .strength

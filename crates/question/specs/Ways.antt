@@ -16,8 +16,7 @@ use Rattle.columns.specs.Columns.{COLUMNS}
 use Rattle.columns.specs.Wiping.{zeros}
 use Rattle.index.specs.declared.Reply.{Reply as CReply}
 use Rattle.index.specs.Build.{Replies}
-use Rattle.stored.specs.Rows.{graphIn, Shape, few-links}
-use Rattle.chain.specs.Load.{index-order}
+use Rattle.stored.specs.Rows.{graphIn, Shape, index-order, few-links}
 use Rattle.chain.specs.Between.{Answered, BetweenAsks}
 use Rattle.question.specs.Replies.{Answers, answer-shown, shown-no-room, shown-wrote}
 

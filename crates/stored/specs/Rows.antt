@@ -22,8 +22,9 @@ use Rattle.laws.proofs.Lists.{test}
 use Rattle.laws.proofs.Members.{getD-in, in-member, range-length}
 use Rattle.laws.proofs.Peeling.{strength-at-least-2}
 use Rattle.laws.proofs.Bound.{strength-max}
-use Rattle.laws.proofs.InOrder.{graph-distinct}
+use Rattle.laws.proofs.InOrder.{graph-distinct, graph-in-order}
 use Rattle.laws.proofs.Proper.{Proper}
+use Rattle.laws.proofs.Sides.{InOrder}
 use Rattle.laws.proofs.Groups.{size, strengthAt}
 use Rattle.laws.proofs.Stored.{groupCount, stored, few-groups}
 use Rattle.laws.proofs.Tree.{rows-length, row-at, group-rows-length, group-row-at, own, own-is, number-is}
@@ -99,6 +100,9 @@ module _ {b : List ℕ} (I : IsIndex b) where
 
   pub proper : Proper G
   proper = graph-proper (fieldAt b 1) (pairsIn b (fieldAt b 3)) (I .accepted .good)
+
+  pub index-order : InOrder G
+  index-order = graph-in-order (fieldAt b 1) (pairsIn b (fieldAt b 3)) (I .accepted .good)
 
   pub few-links : size G ≤ maxLinks
   few-links = omega (arith, graph-size (fieldAt b 1) (pairsIn b (fieldAt b 3)), I .accepted .links)
