@@ -50,9 +50,10 @@ pub mod InOrder
 pub mod Kruskal
 pub mod Weights
 pub mod GroupPlaces
--- the shortest chain between two links (question G)
+-- the shortest chain between two links (question G); the triangles that hold a link (question A)
 pub mod Shortest
 pub mod ShortestRoom
+pub mod Support
 -- tallies over a run of questions; the window, the record as bytes
 pub mod Run
 pub mod Windows

@@ -11,7 +11,7 @@ use Rattle.truss.specs.Record.{field, byteAt}
 use Rattle.truss.specs.LinksFile.{Links, graphOfLinks, readLinks, readBack}
 use Rattle.truss.specs.Index.{indexBytes}
 use Rattle.truss.specs.IndexFile.{readIndex}
-use Rattle.truss.specs.Question.{Question, Answer, number, numbers, chain, answer}
+use Rattle.truss.specs.Question.{Question, Answer, two-numbers, number, numbers, chain, answer}
 
 -- The four numbers of a reply, as the C host gets them: refusal 0 is done, with a value; else the refusal's number, with its place as the value.
 pub record Reply : Type 0 where
@@ -22,6 +22,9 @@ pub record Reply : Type 0 where
 
 abbrev pub done : ℕ → Reply
 done x = record { refusal = 0; value = x; second = 0; third = 0 }
+
+abbrev pub doneWith : ℕ → ℕ → Reply
+doneWith x y = record { refusal = 0; value = x; second = y; third = 0 }
 
 abbrev pub notDone : Refusal → Reply
 notDone r = record { refusal = r .number; value = r .place; second = 0; third = 0 }
@@ -73,16 +76,28 @@ triangleBytes t = field (t .a) ++ field (t .b) ++ field (t .c)
 -- write nothing.
 unfoldable pub answerBytes : Answer → List ℕ
 unfolding concatMap
+answerBytes (two-numbers x y) = []
 answerBytes (number x) = []
 answerBytes (numbers xs) = field (length xs) ++ concatMap field xs
 answerBytes (chain ts) = field (length ts) ++ concatMap triangleBytes ts
 
--- the value of the reply: the answer of A and B, the number of bytes written by C to G
+-- the value of the reply: A's strength, B's answer, the number of bytes written by C to G
 unfoldable pub answerValue : Answer → ℕ
 unfolding answerBytes
+answerValue (two-numbers x y) = x
 answerValue (number x) = x
 answerValue (numbers xs) = length (answerBytes (numbers xs))
 answerValue (chain ts) = length (answerBytes (chain ts))
+
+-- its second number: A's triangles, 0 for the others
+unfoldable pub answerSecond : Answer → ℕ
+answerSecond (two-numbers x y) = y
+answerSecond (number x) = 0
+answerSecond (numbers xs) = 0
+answerSecond (chain ts) = 0
+
+abbrev pub answerReply : Answer → Reply
+answerReply a = doneWith (answerValue a) (answerSecond a)
 
 -- "A question is checked as 7, 8, 9, 10, 11, 12, those that apply."
 unfoldable pub checkedAnswer : List ℕ → Question → List ℕ → Checked Answer
@@ -106,10 +121,10 @@ pub record Asked : Type 0 where
 
 -- "An answered question moves only that window's tally"; the tallies stand in window order
 unfoldable pub settle : Checked Answer → List ℕ → ℕ → List ℕ → Asked
-unfolding answerBytes answerValue
+unfolding answerBytes answerValue answerSecond
 settle (passed a) buffer w tallies =
     record {
-      reply = done (answerValue a);
+      reply = answerReply a;
       buffer = overwrite (answerBytes a) buffer;
       tallies = set tallies w (nextTally (getD tallies w 0));
     }
@@ -147,10 +162,10 @@ unfolding andThen
 checkDesk a desk = andThen a (λ x. refuseIf (ltb (length desk) deskLength) 12 0 (passed x))
 
 unfoldable pub settleBytes : Checked Answer → List ℕ → ℕ → List ℕ → AskedBytes
-unfolding answerBytes answerValue
+unfolding answerBytes answerValue answerSecond
 settleBytes (passed a) buffer w desk =
     record {
-      reply = done (answerValue a);
+      reply = answerReply a;
       buffer = overwrite (answerBytes a) buffer;
       desk = putTally w (nextTally (tallyAt w desk)) desk;
     }

@@ -15,7 +15,7 @@ use Rattle.truss.specs.Record.{bodyLength}
 use Rattle.truss.specs.LinksFile.{accepted, readLinks, pairBytes, writeLinks, readBack}
 use Rattle.truss.specs.Index.{index, encode, indexBytes, decode}
 use Rattle.truss.specs.IndexFile.{readIndex}
-use Rattle.truss.specs.Question.{accountsIn, answer, ask-strength, ask-joined, ask-groups-at, ask-strongest, ask-all, ask-links, number, numbers}
+use Rattle.truss.specs.Question.{accountsIn, answer, ask-strength, ask-joined, ask-groups-at, ask-strongest, ask-all, ask-links, two-numbers, number, numbers}
 use Rattle.truss.specs.Call.{answerBytes, answerValue, tallyBytes, tallyIn}
 use Rattle.truss.specs.Listing.{rows, lister}
 use Rattle.truss.specs.Cards.{pair, file, headOnly, accounts, pairsA, pairsA′, graphA, indexA, graphB, indexB, bowTie, five, nested, slow, weakFirst, weakLast, kite, twoApart, triangle, largeRows, largeBytes}
@@ -27,8 +27,8 @@ pub record Cases : Type 0 where
   no-accounts : readLinks (headOnly 0) ≡ refuse 2 0
   too-many-accounts : readLinks (headOnly 1025) ≡ refuse 2 0
   A-two-triangles : support 5 (member (graphA .links)) (link 1 2) ≡ 2
-  A-1-2 : answer graphA (ask-strength 1 2) ≡ passed (number 3)
-  A-3-4 : answer graphA (ask-strength 4 3) ≡ passed (number 2)
+  A-1-2 : answer graphA (ask-strength 1 2) ≡ passed (two-numbers 3 2)
+  A-3-4 : answer graphA (ask-strength 4 3) ≡ passed (two-numbers 2 0)
   A-3-4-itself : answer graphA (ask-joined 3 4 3 4) ≡ passed (number 0)
   B-3-at-4 : answer graphB (ask-groups-at 4 (accounts (3 ∷ []))) ≡ passed (numbers (0 ∷ 1 ∷ []))
   B-2-4-at-4 : answer graphB (ask-groups-at 4 (accounts (2 ∷ 4 ∷ []))) ≡ passed (numbers [])

@@ -4,7 +4,7 @@ use mathlib.Core.List.{List, [], _∷_, _++_}
 use Prim.Native.Nat.{ℕ}
 use lib.ListN.{take, drop, replicate}
 use Rattle.truss.specs.Question.{ask-strength, ask-groups-at, ask-all, ask-links}
-use Rattle.truss.specs.Call.{Reply, ask, askBytes, done}
+use Rattle.truss.specs.Call.{Reply, ask, askBytes, done, doneWith}
 use Rattle.truss.specs.Run.{Seen, Run, none, one, ownAnswered, Asks, AsksBytes}
 use Rattle.truss.specs.Windows.{refusedBy}
 use Rattle.truss.specs.Cards.{headOnly, accounts, sevens, indexT}
@@ -14,14 +14,14 @@ seen w r = record { window = w; reply = r }
 
 pub record DeskCases : Type 0 where
   -- the window's own tally and no other: the first, the last, one between; at the top it rests, and the others go on
-  window-0 : ask indexT (ask-strength 0 1) [] 0 sevens ≡ record { reply = done 3; buffer = []; tallies = 8 ∷ replicate 31 7 }
-  window-1 : ask indexT (ask-strength 0 1) [] 1 sevens ≡ record { reply = done 3; buffer = []; tallies = 7 ∷ 8 ∷ replicate 30 7 }
-  window-30 : ask indexT (ask-strength 0 1) [] 30 sevens ≡ record { reply = done 3; buffer = []; tallies = replicate 30 7 ++ (8 ∷ 7 ∷ []) }
-  window-31 : ask indexT (ask-strength 0 1) [] 31 sevens ≡ record { reply = done 3; buffer = []; tallies = replicate 31 7 ++ (8 ∷ []) }
+  window-0 : ask indexT (ask-strength 0 1) [] 0 sevens ≡ record { reply = doneWith 3 1; buffer = []; tallies = 8 ∷ replicate 31 7 }
+  window-1 : ask indexT (ask-strength 0 1) [] 1 sevens ≡ record { reply = doneWith 3 1; buffer = []; tallies = 7 ∷ 8 ∷ replicate 30 7 }
+  window-30 : ask indexT (ask-strength 0 1) [] 30 sevens ≡ record { reply = doneWith 3 1; buffer = []; tallies = replicate 30 7 ++ (8 ∷ 7 ∷ []) }
+  window-31 : ask indexT (ask-strength 0 1) [] 31 sevens ≡ record { reply = doneWith 3 1; buffer = []; tallies = replicate 31 7 ++ (8 ∷ []) }
   at-rest : ask indexT (ask-strength 0 1) [] 31 (replicate 31 7 ++ (4_294_967_295 ∷ []))
-      ≡ record { reply = done 3; buffer = []; tallies = replicate 31 7 ++ (4_294_967_295 ∷ []) }
+      ≡ record { reply = doneWith 3 1; buffer = []; tallies = replicate 31 7 ++ (4_294_967_295 ∷ []) }
   beside-rest : ask indexT (ask-strength 0 1) [] 1 (4_294_967_295 ∷ 4_294_967_294 ∷ replicate 30 7)
-      ≡ record { reply = done 3; buffer = []; tallies = 4_294_967_295 ∷ 4_294_967_295 ∷ replicate 30 7 }
+      ≡ record { reply = doneWith 3 1; buffer = []; tallies = 4_294_967_295 ∷ 4_294_967_295 ∷ replicate 30 7 }
   refused-stays : ask indexT (ask-strength 0 0) [] 5 sevens ≡ record { reply = refusedBy 11; buffer = []; tallies = sevens }
   -- 13: "window above 31", whatever a multiple of 32 takes away from it
   window-32 : ask indexT (ask-strength 0 1) (9 ∷ []) 32 sevens ≡ record { reply = refusedBy 13; buffer = 9 ∷ []; tallies = sevens }
@@ -37,15 +37,15 @@ pub record DeskCases : Type 0 where
   before-12 : ask indexT (ask-all (accounts (2 ∷ []))) [] 32 sevens ≡ record { reply = refusedBy 13; buffer = []; tallies = sevens }
   -- as bytes: "four to a tally, high byte first", in window order; the bytes of the others and those beyond stay, also where a tally carries through all its bytes
   first-bytes : askBytes indexT (ask-strength 0 1) [] 0 (0 ∷ 0 ∷ 0 ∷ 255 ∷ replicate 124 9)
-      ≡ record { reply = done 3; buffer = []; desk = 0 ∷ 0 ∷ 1 ∷ 0 ∷ replicate 124 9 }
+      ≡ record { reply = doneWith 3 1; buffer = []; desk = 0 ∷ 0 ∷ 1 ∷ 0 ∷ replicate 124 9 }
   second-bytes : askBytes indexT (ask-strength 0 1) [] 1 (replicate 4 9 ++ (0 ∷ 255 ∷ 255 ∷ 255 ∷ replicate 121 9))
-      ≡ record { reply = done 3; buffer = []; desk = replicate 4 9 ++ (1 ∷ 0 ∷ 0 ∷ 0 ∷ replicate 121 9) }
+      ≡ record { reply = doneWith 3 1; buffer = []; desk = replicate 4 9 ++ (1 ∷ 0 ∷ 0 ∷ 0 ∷ replicate 121 9) }
   last-bytes : askBytes indexT (ask-strength 0 1) [] 31 (replicate 124 9 ++ (1 ∷ 255 ∷ 255 ∷ 254 ∷ []))
-      ≡ record { reply = done 3; buffer = []; desk = replicate 124 9 ++ (1 ∷ 255 ∷ 255 ∷ 255 ∷ []) }
+      ≡ record { reply = doneWith 3 1; buffer = []; desk = replicate 124 9 ++ (1 ∷ 255 ∷ 255 ∷ 255 ∷ []) }
   bytes-carry : askBytes indexT (ask-strength 0 1) [] 5 (replicate 20 255 ++ (254 ∷ 255 ∷ 255 ∷ 255 ∷ replicate 104 255))
-      ≡ record { reply = done 3; buffer = []; desk = replicate 20 255 ++ (255 ∷ 0 ∷ 0 ∷ 0 ∷ replicate 104 255) }
+      ≡ record { reply = doneWith 3 1; buffer = []; desk = replicate 20 255 ++ (255 ∷ 0 ∷ 0 ∷ 0 ∷ replicate 104 255) }
   bytes-at-rest : askBytes indexT (ask-strength 0 1) [] 5 (replicate 20 0 ++ (replicate 4 255 ++ replicate 108 0))
-      ≡ record { reply = done 3; buffer = []; desk = replicate 20 0 ++ (replicate 4 255 ++ replicate 108 0) }
+      ≡ record { reply = doneWith 3 1; buffer = []; desk = replicate 20 0 ++ (replicate 4 255 ++ replicate 108 0) }
   bytes-beyond : askBytes indexT (ask-all (accounts (2 ∷ []))) (replicate 5 9) 31 (replicate 124 9 ++ (0 ∷ 0 ∷ 0 ∷ 7 ∷ 8 ∷ 255 ∷ []))
       ≡ record { reply = done 4; buffer = 0 ∷ 1 ∷ 0 ∷ 0 ∷ 9 ∷ []; desk = replicate 124 9 ++ (0 ∷ 0 ∷ 0 ∷ 8 ∷ 8 ∷ 255 ∷ []) }
   bytes-refused : askBytes indexT (ask-strength 0 0) [] 0 (replicate 128 7) ≡ record { reply = refusedBy 11; buffer = []; desk = replicate 128 7 }
@@ -66,11 +66,11 @@ pub record DeskCases : Type 0 where
   bytes-13-no-room : askBytes indexT (ask-all (accounts (2 ∷ []))) [] 32 (replicate 128 7) ≡ record { reply = refusedBy 13; buffer = []; desk = replicate 128 7 }
   bytes-32 : askBytes indexT (ask-strength 0 1) [] 32 (replicate 132 7) ≡ record { reply = refusedBy 13; buffer = []; desk = replicate 132 7 }
   -- a run: window 1 asks four times and is answered twice, window 0 once between, window 33 is none
-  interleaved : Run Asks sevens (seen 1 (done 3) ∷ seen 0 (done 3) ∷ seen 1 (refusedBy 11) ∷ seen 33 (refusedBy 13) ∷ seen 1 (refusedBy 9) ∷ seen 1 (done 3) ∷ []) (8 ∷ 9 ∷ replicate 30 7)
+  interleaved : Run Asks sevens (seen 1 (doneWith 3 1) ∷ seen 0 (doneWith 3 1) ∷ seen 1 (refusedBy 11) ∷ seen 33 (refusedBy 13) ∷ seen 1 (refusedBy 9) ∷ seen 1 (doneWith 3 1) ∷ []) (8 ∷ 9 ∷ replicate 30 7)
   -- the same as bytes: once 127 of them are lent, once all and more than there are; E on no index, with a buffer
-  interleaved-bytes : Run AsksBytes (replicate 130 0) (seen 1 (done 3) ∷ seen 0 (done 3) ∷ seen 1 (refusedBy 12) ∷ seen 33 (refusedBy 13) ∷ seen 1 (refusedBy 7) ∷ seen 1 (done 3) ∷ []) (0 ∷ 0 ∷ 0 ∷ 1 ∷ 0 ∷ 0 ∷ 0 ∷ 2 ∷ replicate 122 0)
-  own : ownAnswered 1 (seen 1 (done 3) ∷ seen 0 (done 3) ∷ seen 1 (refusedBy 11) ∷ seen 33 (refusedBy 13) ∷ seen 1 (refusedBy 9) ∷ seen 1 (done 3) ∷ []) ≡ 2
-  none-own : ownAnswered 2 (seen 1 (done 3) ∷ seen 0 (done 3) ∷ seen 2 (refusedBy 11) ∷ []) ≡ 0
+  interleaved-bytes : Run AsksBytes (replicate 130 0) (seen 1 (doneWith 3 1) ∷ seen 0 (doneWith 3 1) ∷ seen 1 (refusedBy 12) ∷ seen 33 (refusedBy 13) ∷ seen 1 (refusedBy 7) ∷ seen 1 (doneWith 3 1) ∷ []) (0 ∷ 0 ∷ 0 ∷ 1 ∷ 0 ∷ 0 ∷ 0 ∷ 2 ∷ replicate 122 0)
+  own : ownAnswered 1 (seen 1 (doneWith 3 1) ∷ seen 0 (doneWith 3 1) ∷ seen 1 (refusedBy 11) ∷ seen 33 (refusedBy 13) ∷ seen 1 (refusedBy 9) ∷ seen 1 (doneWith 3 1) ∷ []) ≡ 2
+  none-own : ownAnswered 2 (seen 1 (doneWith 3 1) ∷ seen 0 (doneWith 3 1) ∷ seen 2 (refusedBy 11) ∷ []) ≡ 0
 
 -- a question of a run on the triangle, A on 0-b
 asks : (b : ℕ) {s t : List ℕ} {w : ℕ} {r : Reply} → r ≡ ask indexT (ask-strength 0 b) [] w s .reply → t ≡ ask indexT (ask-strength 0 b) [] w s .tallies → Asks s w r t

@@ -9,6 +9,7 @@ pub mod Chain
 pub mod Forest
 pub mod Group
 pub mod Shortest
+pub mod Support
 -- the two files
 pub mod Refusal
 pub mod Record
@@ -20,10 +21,11 @@ pub mod Question
 pub mod Call
 pub mod Change
 pub mod Listing
--- what a refused call leaves; what question G answers; the window, the record as bytes, tallies over a run of questions
+-- what a refused call leaves; what question G answers; the window and the record as bytes; what question A answers; tallies over a run of questions
 pub mod Kept
 pub mod Ways
 pub mod Windows
+pub mod Firmness
 pub mod Run
 -- demand 3
 pub mod Stored
@@ -33,6 +35,7 @@ pub mod Changes
 -- the worked cases; the statements spelled out
 pub mod Cards
 pub mod Cases
+pub mod StrengthCases
 pub mod ChainCases
 pub mod WholeCalls
 pub mod DeskCases

@@ -10,10 +10,11 @@ use Rattle.truss.specs.Graph.{Link, Graph, Triangle, link, linkAt, ends,
 use Rattle.truss.specs.Strength.{strength, strengthBound}
 use Rattle.truss.specs.Group.{Group, leastLink, groups, groupAt}
 use Rattle.truss.specs.Shortest.{shortestChain}
+use Rattle.truss.specs.Support.{supportAt}
 use Rattle.truss.specs.Refusal.{Checked, passed, refuseIf}
 use Rattle.truss.specs.Record.{fromBytes}
 
--- ---- the answers. A, "The strength of a link", is `strength`.
+-- ---- the answers. A, "the strength s, and how many triangles of weight at least s hold the link", is `strength` and `supportAt`.
 
 -- B. "The largest k at which two links are joined, 0 if none; a link with itself gives its strength, or 0 at strength 2." A link is in its own group
 -- at k just if its strength is at least k, and other links are in it just if they are joined (laws: joined-up-to-is, joined-up-to-max).
@@ -79,8 +80,9 @@ pub data Question : Type 0 where
   ask-links : (k a b : ℕ) → Question
   ask-chain : (k a b c d : ℕ) → Question
 
--- A and B answer with a number; C to F with group or link numbers, to be written; G with triangles, to be written.
+-- "Question A now gives two numbers"; B answers with one; C to F with group or link numbers, to be written; G with triangles, to be written.
 pub data Answer : Type 0 where
+  two-numbers : ℕ → ℕ → Answer
   number : ℕ → Answer
   numbers : List ℕ → Answer
   chain : List Triangle → Answer
@@ -110,11 +112,11 @@ noLink G a b = not (member (G .links) (link a b))
 
 -- "A question is checked as 7, 8, 9, 10, 11, 12, those that apply": here 8 to 11; 7 and 12 stand in Call. Each has place 0.
 unfoldable pub answer : Graph → Question → Checked Answer
-unfolding strength accountsIn outside member joinedUpTo groupsHolding strongestHolding allHolding groupLinks shortestChain
+unfolding strength supportAt accountsIn outside member joinedUpTo groupsHolding strongestHolding allHolding groupLinks shortestChain
 answer G (ask-strength a b) =
     refuseIf (outside G (a ∷ b ∷ [])) 9 0
     (refuseIf (noLink G a b) 11 0
-    (passed (number (strength G (link a b)))))
+    (let s = strength G (link a b) in passed (two-numbers s (supportAt G s (link a b)))))
 answer G (ask-joined a b c d) =
     refuseIf (outside G (a ∷ b ∷ c ∷ d ∷ [])) 9 0
     (refuseIf (noLink G a b || noLink G c d) 11 0

@@ -1,26 +1,31 @@
--- Demand 3 in plain words of the definitions: what it says of any files, links and levels, whatever memory was lent; what question G answers (Ways); what the
--- window and the record as bytes have to do with a question (Windows); tallies over a run (Run); and links that come and go (Changes). A hypothesis more in one of them, or a conclusion less, fails here; no law fails at it, since the law that is left is weaker and true.
-use mathlib.Core.Path.{_≡_, refl}
+-- Demand 3 in plain words of the definitions: what it says of any files, links and levels, whatever memory was lent; what question A answers (Firmness), and how an answer stands in reply and
+-- buffer; what question G answers (Ways); what the window and the record as bytes have to do with a question (Windows); tallies over a run (Run); and links that come and go (Changes).
+-- A hypothesis more in one of them, or a conclusion less, fails here; no law fails at it, since the law that is left is weaker and true.
+use mathlib.Core.Path.{_≡_, refl, sym, ap, _∙_, subst}
 use mathlib.Core.Logic.{_⊎_, inl, inr, _↔_, _≢_}
 use mathlib.Core.Bool.{true, false, cond, not, _&&_, _||_}
 use mathlib.Core.List.{List, [], _∷_, _++_, map}
 use mathlib.Core.List.{List·Memᴰ as In}
-use Prim.Native.Nat.{ℕ, _+_, _≤_, _<_, min}
+use Prim.Native.Nat.{ℕ, suc, _+_, _-_, _≤_, _<_, min}
+use native.Mathlib.Omega.{arith}
 use lib.Dec.{eqb}
-use lib.ListN.{length, getD, take}
+use lib.ListN.{length, getD, take, drop, set}
 use Rattle.truss.specs.Limits.{maxLinks, minLevel, maxLevel, maxChainBytes}
 use Rattle.truss.specs.Graph.{Link, LinkSet, Pair, Graph, Triangle, Has, link, sameLink, linkOf, graphOf, member}
+use Rattle.truss.specs.Strength.{IsStrength}
 use Rattle.truss.specs.Chain.{AtLeast, StrongTriangle, Joined}
 use Rattle.truss.specs.Shortest.{IsShortestFirst, triangleBefore, shortestChain}
-use Rattle.truss.specs.Refusal.{passed, refuse}
+use Rattle.truss.specs.Support.{EachOnce, nothing, and-one}
+use Rattle.truss.specs.Refusal.{Refusal, passed, refused, refuse}
 use Rattle.truss.specs.LinksFile.{accepted, readLinks}
 use Rattle.truss.specs.Index.{decode, indexBytes}
 use Rattle.truss.specs.IndexFile.{readIndex}
-use Rattle.truss.specs.Question.{Question, chain}
-use Rattle.truss.specs.Call.{Written, answerBytes, build, done, ask, askBytes, tallyAt}
+use Rattle.truss.specs.Question.{Question, Answer, two-numbers, number, numbers, chain, ask-strength}
+use Rattle.truss.specs.Call.{Written, Asked, answerBytes, answerValue, answerSecond, answerReply, settle, build, done, ask, askBytes, tallyAt}
 use Rattle.truss.specs.Stored.{ForestConnects, TreeHolds}
 use Rattle.truss.specs.Demand3.{Builds, AllOrNone, Demand3, OnlyShortMemory}
 use Rattle.truss.specs.Kept.{RefusalKeeps}
+use Rattle.truss.specs.Firmness.{IsFirmness, FirmnessRule}
 use Rattle.truss.specs.Ways.{Ways}
 use Rattle.truss.specs.Windows.{refusedBy, recordOf, WindowRule, RecordRule}
 use Rattle.truss.specs.Run.{Seen, Run, ownAnswered, Asks, RunTallies, AsksBytes, RunRecord}
@@ -38,6 +43,35 @@ pub record Spelled : Type 0 where
       → (Joined (graphOf n ps) k e f ↔ ForestConnects (decode b) k e f) × (Joined (graphOf n ps) k e f ↔ TreeHolds (decode b) k e f)
   only-short-memory : OnlyShortMemory → (file : List ℕ) (n : ℕ) (ps : List Pair) (lent : List ℕ)
       → readLinks file ≡ accepted n ps → length (indexBytes (graphOf n ps)) ≤ length lent → build file lent .reply ≡ done (length (indexBytes (graphOf n ps)))
+  -- for any row of triangles that has just those of the graph of weight at least s that hold the link, each once: s and how many there are
+  strength-and-triangles : FirmnessRule → (bytes : List ℕ) (G : Graph) (a b : ℕ) (buffer : List ℕ) (w : ℕ) (tallies : List ℕ) → readIndex bytes ≡ passed G → w < 32 → member (G .links) (link a b) ≡ true
+      → (s : ℕ) → IsStrength G (link a b) s → (ts : List Triangle) → EachOnce ts → ((t : Triangle) → In t ts ↔ (StrongTriangle G s t × Has t (link a b)))
+      → ask bytes (ask-strength a b) buffer w tallies
+      ≡ record { reply = record { refusal = 0; value = s; second = length ts; third = 0 }; buffer = buffer; tallies = set tallies w (min (suc (getD tallies w 0)) 4_294_967_295) }
+  strength-9 : FirmnessRule → (bytes : List ℕ) (G : Graph) (a b : ℕ) (buffer : List ℕ) (w : ℕ) (tallies : List ℕ) → readIndex bytes ≡ passed G → w < 32 → (G .n ≤ a) ⊎ (G .n ≤ b)
+      → ask bytes (ask-strength a b) buffer w tallies ≡ record { reply = refusedBy 9; buffer = buffer; tallies = tallies }
+  strength-11 : FirmnessRule → (bytes : List ℕ) (G : Graph) (a b : ℕ) (buffer : List ℕ) (w : ℕ) (tallies : List ℕ) → readIndex bytes ≡ passed G → w < 32 → a < G .n → b < G .n
+      → member (G .links) (link a b) ≡ false → ask bytes (ask-strength a b) buffer w tallies ≡ record { reply = refusedBy 11; buffer = buffer; tallies = tallies }
+  once-nothing : EachOnce []
+  once-one-more : (t : Triangle) (ts : List Triangle) → ¬ In t ts → EachOnce ts → EachOnce (t ∷ ts)
+  at-strength-2 : FirmnessRule → (bytes : List ℕ) (G : Graph) (a b : ℕ) (buffer : List ℕ) (w : ℕ) (tallies : List ℕ) → readIndex bytes ≡ passed G → w < 32 → member (G .links) (link a b) ≡ true
+      → ask bytes (ask-strength a b) buffer w tallies .reply .value ≡ 2 → ask bytes (ask-strength a b) buffer w tallies .reply .second ≡ 0
+  from-3-up : FirmnessRule → (bytes : List ℕ) (G : Graph) (a b : ℕ) (buffer : List ℕ) (w : ℕ) (tallies : List ℕ) → readIndex bytes ≡ passed G → w < 32 → member (G .links) (link a b) ≡ true
+      → 3 ≤ ask bytes (ask-strength a b) buffer w tallies .reply .value
+      → ask bytes (ask-strength a b) buffer w tallies .reply .value - 2 ≤ ask bytes (ask-strength a b) buffer w tallies .reply .second
+  -- an answer in the reply and in the buffer: A has two numbers, B one, C to G have how many bytes they write
+  reply-A : (x y : ℕ) → answerReply (two-numbers x y) ≡ record { refusal = 0; value = x; second = y; third = 0 }
+  reply-B : (x : ℕ) → answerReply (number x) ≡ record { refusal = 0; value = x; second = 0; third = 0 }
+  reply-list : (xs : List ℕ) → answerReply (numbers xs) ≡ record { refusal = 0; value = length (answerBytes (numbers xs)); second = 0; third = 0 }
+  reply-chain : (ts : List Triangle) → answerReply (chain ts) ≡ record { refusal = 0; value = length (answerBytes (chain ts)); second = 0; third = 0 }
+  -- a build, a reading and a change that are done
+  reply-length : (x : ℕ) → done x ≡ record { refusal = 0; value = x; second = 0; third = 0 }
+  nothing-A : (x y : ℕ) → answerBytes (two-numbers x y) ≡ []
+  nothing-B : (x : ℕ) → answerBytes (number x) ≡ []
+  answered : (a : Answer) (buffer : List ℕ) (w : ℕ) (tallies : List ℕ) → settle (passed a) buffer w tallies
+      ≡ record { reply = answerReply a; buffer = answerBytes a ++ drop (length (answerBytes a)) buffer; tallies = set tallies w (min (suc (getD tallies w 0)) 4_294_967_295) }
+  turned-back : (r : Refusal) (buffer : List ℕ) (w : ℕ) (tallies : List ℕ) → settle (refused r) buffer w tallies
+      ≡ record { reply = record { refusal = r .number; value = r .place; second = 0; third = 0 }; buffer = buffer; tallies = tallies }
   shortest-way : Ways → (file : List ℕ) (n : ℕ) (ps : List Pair) → readLinks file ≡ accepted n ps → (k : ℕ) (e f : Link)
       → (Joined (graphOf n ps) k e f → IsShortestFirst (graphOf n ps) k e f (shortestChain (graphOf n ps) k e f))
       × ((ts us : List Triangle) → IsShortestFirst (graphOf n ps) k e f ts → IsShortestFirst (graphOf n ps) k e f us → ts ≡ us)
@@ -109,7 +143,7 @@ told : (file : List ℕ) (n : ℕ) (ps : List Pair) → readLinks file ≡ accep
 told file n ps h = record { pairs = ps; is-index = record { file = file; file-accepted = h; bytes = refl }; names = λ e. (λ m. m, λ m. m) }
 
 pub spelled : Spelled
-unfolding moved
+unfolding moved settle answerBytes answerValue answerSecond
 spelled = record {
   same-index = λ d file file′ n n′ ps ps′ b b′ lent lent′ h r w h′ r′ w′.
       let s = d file file′ n n′ ps ps′ b b′ h h′ (record { lent = lent; not-refused = r; written = w }) (record { lent = lent′; not-refused = r′; written = w′ }) .same-index in
@@ -118,6 +152,33 @@ spelled = record {
       let x : Builds file b = record { lent = lent; not-refused = r; written = w } in
       alike (d file file n n ps ps b b h h x x .agrees e f he hf ne k l u);
   only-short-memory = λ o. o;
+  strength-and-triangles = λ r bytes G a b buffer w tallies h l m s i ts o t.
+      let (s′, x′, f, q) = r .gives bytes G a b buffer w tallies h l m in
+      let same = r .only G (link a b) s′ s x′ (length ts) f (record {
+        strength-is = i;
+        support-is = record { holding = ts; are-holding = record { once = o; only = λ u k. t u .0 k; all = λ u k v. t u .1 (k, v) }; count-is = refl };
+      }) in
+      q ∙ (λ i. record { reply = record { refusal = 0; value = same .0 i; second = same .1 i; third = 0 }; buffer = buffer; tallies = set tallies w (min (suc (getD tallies w 0)) 4_294_967_295) });
+  strength-9 = λ r. r .outside;
+  strength-11 = λ r. r .no-link;
+  once-nothing = nothing;
+  once-one-more = λ t ts n o. and-one n o;
+  at-strength-2 = λ r bytes G a b buffer w tallies h l m q.
+      let (s′, x′, f, p) = r .gives bytes G a b buffer w tallies h l m in
+      ap (λ (y : Asked). y .reply .second) p
+      ∙ r .weak bytes G (link a b) x′ h (subst (λ (y : ℕ). IsFirmness G (link a b) y x′) (sym (ap (λ (y : Asked). y .reply .value) p) ∙ q) f);
+  from-3-up = λ r bytes G a b buffer w tallies h l m u.
+      let (s′, x′, f, p) = r .gives bytes G a b buffer w tallies h l m in
+      omega (arith, ap (λ (y : Asked). y .reply .value) p, ap (λ (y : Asked). y .reply .second) p, r .firm bytes G (link a b) s′ x′ h f);
+  reply-A = λ x y. refl;
+  reply-B = λ x. refl;
+  reply-list = λ xs. refl;
+  reply-chain = λ ts. refl;
+  reply-length = λ x. refl;
+  nothing-A = λ x y. refl;
+  nothing-B = λ x. refl;
+  answered = λ a buffer w tallies. refl;
+  turned-back = λ r buffer w tallies. refl;
   shortest-way = λ w file n ps h k e f. let x = w file n ps h k e f in (x .given, x .only, x .none);
   with-itself = λ w file n ps h k e. let x = w file n ps h k e e in ((λ l s. let y = x .itself l s in (y .t, y .one, y .strong, y .holds, y .first)), x .itself-none);
   chain-written = λ w file n ps h k e f. let x = w file n ps h k e f in (x .rising, x .room);

@@ -4,7 +4,7 @@ use mathlib.Core.List.{[], _∷_, _++_}
 use lib.ListN.{replicate}
 use Rattle.truss.specs.LinksFile.{writeLinks}
 use Rattle.truss.specs.Question.{ask-strength, ask-joined, ask-groups-at, ask-strongest, ask-all, ask-links}
-use Rattle.truss.specs.Call.{build, read, ask, done}
+use Rattle.truss.specs.Call.{build, read, ask, done, doneWith}
 use Rattle.truss.specs.Listing.{decimal, rowText, lister, builder}
 use Rattle.truss.specs.Cards.{pair, file, headOnly, accounts, sevens, pairsA, indexA, indexB, indexT}
 
@@ -27,9 +27,9 @@ pub record WholeCalls : Type 0 where
   read-refused : read (headOnly 1 ++ (5 ∷ [])) (9 ∷ []) ≡ record { reply = record { refusal = 7; value = 0; second = 0; third = 0 }; buffer = 9 ∷ [] }
   read-links-file : read (writeLinks 5 pairsA) [] ≡ record { reply = record { refusal = 7; value = 0; second = 0; third = 0 }; buffer = [] }
   -- a question: the reply, the answer buffer, the tallies (more of them: DeskCases)
-  counted : ask indexT (ask-strength 1 0) (9 ∷ []) 0 sevens ≡ record { reply = done 3; buffer = 9 ∷ []; tallies = 8 ∷ replicate 31 7 }
-  at-rest : ask indexT (ask-strength 1 0) [] 0 (4_294_967_295 ∷ replicate 31 7) ≡ record { reply = done 3; buffer = []; tallies = 4_294_967_295 ∷ replicate 31 7 }
-  last-counted : ask indexT (ask-strength 1 0) [] 0 (4_294_967_294 ∷ replicate 31 7) ≡ record { reply = done 3; buffer = []; tallies = 4_294_967_295 ∷ replicate 31 7 }
+  counted : ask indexT (ask-strength 1 0) (9 ∷ []) 0 sevens ≡ record { reply = doneWith 3 1; buffer = 9 ∷ []; tallies = 8 ∷ replicate 31 7 }
+  at-rest : ask indexT (ask-strength 1 0) [] 0 (4_294_967_295 ∷ replicate 31 7) ≡ record { reply = doneWith 3 1; buffer = []; tallies = 4_294_967_295 ∷ replicate 31 7 }
+  last-counted : ask indexT (ask-strength 1 0) [] 0 (4_294_967_294 ∷ replicate 31 7) ≡ record { reply = doneWith 3 1; buffer = []; tallies = 4_294_967_295 ∷ replicate 31 7 }
   refused-not-counted : ask indexT (ask-strength 0 3) (9 ∷ []) 0 sevens
       ≡ record { reply = record { refusal = 9; value = 0; second = 0; third = 0 }; buffer = 9 ∷ []; tallies = sevens }
   no-index-first : ask (headOnly 1 ++ (5 ∷ [])) (ask-all []) [] 0 sevens ≡ record { reply = record { refusal = 7; value = 0; second = 0; third = 0 }; buffer = []; tallies = sevens }

@@ -1,5 +1,6 @@
 // The definitions of the linked-account index stand in specs/. The check looks at a crate only if it has a function: this one promises the worked cases.
 ghost use Rattle.truss.specs.Cases.{Cases, RuleCases, WindowCases, FieldCases};
+ghost use Rattle.truss.specs.StrengthCases.{StrengthCases};
 ghost use Rattle.truss.specs.ChainCases.{ChainCases};
 ghost use Rattle.truss.specs.WholeCalls.{WholeCalls};
 ghost use Rattle.truss.specs.DeskCases.{DeskCases};
@@ -8,7 +9,7 @@ ghost use Rattle.truss.specs.Figures.{Figures};
 ghost use Rattle.truss.specs.Spelled.{Spelled};
 
 pub fn definitions()
-    ensures { λ _. ⌜ Cases × RuleCases × WindowCases × FieldCases × ChainCases × WholeCalls × DeskCases × ChangeCases × Figures × Spelled ⌝ }
+    ensures { λ _. ⌜ Cases × RuleCases × WindowCases × FieldCases × StrengthCases × ChainCases × WholeCalls × DeskCases × ChangeCases × Figures × Spelled ⌝ }
 {
     return;
 }
