@@ -14,15 +14,20 @@ use Rattle.truss.specs.Limits.{minStrength, maxStrength, minLevel, maxLevel, no
 use Rattle.truss.specs.Lists.{any, filter, range, largest}
 use Rattle.truss.specs.Graph.{Graph, Link, link, linkAt, linkNumber, member}
 use Rattle.truss.specs.Strength.{strength, strengthBound}
+use Rattle.truss.specs.Support.{supportAt}
 use Rattle.truss.specs.Forest.{sameComponent}
 use Rattle.truss.specs.Group.{groupAt, groups, groupOf, labelsAt}
 use Rattle.truss.specs.Refusal.{Checked, passed, refuse}
 use Rattle.truss.specs.Question.{Answer, number, numbers, answer, outside, badLevel, joinedUpTo, groupLinks, ask-strength, ask-joined, ask-links}
+use Rattle.truss.specs.Call.{doneWith}
 use Rattle.laws.proofs.Lists.{test, true-not-false, or-left-false, both, and-left, and-right, largest-max, largest-passes}
 use Rattle.laws.proofs.Numbers.{same-or-not, less-or-not}
 use Rattle.laws.proofs.Members.{in-any, link-of-number, filter-in, in-filter, filter-none, in-range}
 use Rattle.laws.proofs.Sets.{any-number}
+use Rattle.laws.proofs.Proper.{Proper}
 use Rattle.laws.proofs.Peeling.{strength-at-most}
+use Rattle.laws.proofs.Answers.{not-outside}
+use Rattle.laws.proofs.Support.{strength-outside, strength-no-link, strength-answer}
 use Rattle.laws.proofs.Groups.{size, strengthAt, groupAt-eq, groupAt-none, group-strong}
 use Rattle.laws.proofs.Stored.{groupCount}
 use Rattle.columns.specs.Columns.{cell, store, COLUMNS}
@@ -31,16 +36,21 @@ use Rattle.limits.specs.declared.Strength.{Strength}
 use Rattle.limits.specs.declared.MaybeStrength.the-variants.{Known, OutOfRange}
 use Rattle.limits.specs.Range.{strengthOf}
 use Rattle.index.specs.declared.Reply.{Reply as CReply}
+use Rattle.index.specs.Build.{replyIn}
 use Rattle.stored.specs.Rows.{graphIn, IsIndex, GroupsAt, Shape, proper, fits-groups, few, few-links, few-accounts, strength-range}
 use Rattle.stored.specs.Find.{found-link}
 use Rattle.stored.specs.Climb.{same-group, group-some, group-same}
 use Rattle.holding.specs.Marks.{Marks}
-use Rattle.question.specs.Replies.{Answers}
+use Rattle.question.specs.Replies.{Answers, answer-two}
 use Rattle.question.specs.Lists.{marked, marked-are}
 
 -- a reply that leaves the buffer, whatever it holds
 abbrev pub NumberGives : Graph → Rattle.truss.specs.Question.Question → CReply → Type 0
 NumberGives G q r = (out : List ℕ) → Answers G q out r out
+
+-- the two numbers of link e
+abbrev pub FirmnessGives : Graph → ℕ → CReply → Type 0
+FirmnessGives G e r = replyIn r ≡ doneWith (strengthAt G e) (supportAt G (strengthAt G e) (linkAt G e))
 
 -- ---- checks
 
@@ -63,10 +73,6 @@ level-least k q = ltb-false k minLevel (or-left-false (ltb k minLevel) (ltb maxL
 
 -- ---- a link by its number
 
--- what the look-up says of the link's strength
-pub found-strength : (G : Graph) (e : Link) {m r : ℕ} → size G ≡ m → r ≡ linkNumber G e → r ≢ m → strengthAt G r ≡ strength G e
-found-strength G e links q n = ap (strength G) (ap (linkAt G) q ∙ link-of-number G e (found-link G e links q n))
-
 -- a strength's number, which every link of an index has
 pub known-strength : {x : ℕ} {k : Strength} → strengthOf x ≡ Known k → (minStrength ≤ x) × (x ≤ maxStrength) → k .0 ≡ x
 unfolding strengthOf
@@ -81,26 +87,33 @@ strength-known I {i} l q = let r = strength-range I i l in (omega (arith, q, r .
 
 -- ---- A
 
+pub firmness-known : {b : List ℕ} → IsIndex b → {e s x : ℕ} {k : Strength} {r : CReply} → e < size (graphIn b) → s ≡ strengthAt (graphIn b) e → strengthOf s ≡ Known k
+    → x ≡ supportAt (graphIn b) s (linkAt (graphIn b) e) → replyIn r ≡ doneWith (k .0) x → FirmnessGives (graphIn b) e r
+firmness-known {b} I {e} l q h y f =
+    f ∙ ap₂ doneWith (known-strength h (strength-known I l q) ∙ q) (y ∙ ap (λ (s : ℕ). supportAt (graphIn b) s (linkAt (graphIn b) e)) q)
+
 module _ (G : Graph) {n : ℕ} (accounts : G .n ≡ n) (a b : ℕ) where
   pub A-first : n ≤ a → answer G (ask-strength a b) ≡ refuse 9 0
-  unfolding answer
-  A-first l = rw (outside-here G accounts a (b ∷ []) l) refl
+  A-first l = strength-outside G a b (inl (omega (arith, accounts, l)))
+
+  pub A-second : n ≤ b → answer G (ask-strength a b) ≡ refuse 9 0
+  A-second l = strength-outside G a b (inr (omega (arith, accounts, l)))
+
+  pub A-none : a < n → b < n → member (G .links) (link a b) ≡ false → answer G (ask-strength a b) ≡ refuse 11 0
+  A-none la lb f = strength-no-link G a b (omega (arith, accounts, la)) (omega (arith, accounts, lb)) f
 
   two-inside : a < n → b < n → outside G (a ∷ b ∷ []) ≡ false
-  two-inside l h = outside-next G accounts a (b ∷ []) l ∙ outside-next G accounts b [] h ∙ outside-none G accounts
+  two-inside l h = not-outside G a b (omega (arith, accounts, l)) (omega (arith, accounts, h))
 
-  pub A-second : a < n → n ≤ b → answer G (ask-strength a b) ≡ refuse 9 0
-  unfolding answer
-  A-second l h = rw (outside-next G accounts a (b ∷ []) l ∙ outside-here G accounts b [] h) refl
+  -- the link that was looked up
+  pub A-found : {m e : ℕ} {r : CReply} → Proper G → size G ≡ m → e ≡ linkNumber G (link a b) → e ≢ m → FirmnessGives G e r → NumberGives G (ask-strength a b) r
+  A-found {m} {e} P links q n f = λ out. answer-two G (ask-strength a b) out (strength-answer G a b P there) (f ∙ ap (λ (g : Link). doneWith (strength G g) (supportAt G (strength G g) g)) at)
+    where
+      there : member (G .links) (link a b) ≡ true
+      there = found-link G (link a b) links q n
 
-  module _ (la : a < n) (lb : b < n) where
-    pub A-none : member (G .links) (link a b) ≡ false → answer G (ask-strength a b) ≡ refuse 11 0
-    unfolding answer
-    A-none f = rw (two-inside la lb, f) refl
-
-    pub A-is : {s : ℕ} → member (G .links) (link a b) ≡ true → s ≡ strength G (link a b) → answer G (ask-strength a b) ≡ passed (number s)
-    unfolding answer
-    A-is {s} t q = rw (two-inside la lb, t) (ap {B = Checked Answer} (λ (x : ℕ). passed (number x)) (sym q))
+      at : linkAt G e ≡ link a b
+      at = ap (linkAt G) q ∙ link-of-number G (link a b) there
 
 -- ---- B
 

@@ -14,7 +14,7 @@ use Rattle.truss.specs.Limits.{maxLinks}
 use Rattle.truss.specs.Lists.{filter, range, concatMap}
 use Rattle.truss.specs.Record.{field}
 use Rattle.truss.specs.Question.{numbers}
-use Rattle.truss.specs.Call.{answerBytes, answerValue}
+use Rattle.truss.specs.Call.{answerBytes, answerValue, answerSecond}
 use Rattle.laws.proofs.Numbers.{same-or-not}
 use Rattle.laws.proofs.Lists.{bool-same}
 use Rattle.laws.proofs.Members.{range-last, range-in}
@@ -115,9 +115,9 @@ module _ (xs out : List ℕ) where
   list-no-room l R = shown-no-room (numbers xs) out (omega (arith, l, answer-length xs)) R
 
   pub list-wrote : {r : CReply} {out′ : List ℕ} → 2 + 2 * length xs ≤ length out → out′ ≡ written out 0 (field (length xs) ++ concatMap field xs) → Replies r 0 (2 + 2 * length xs) → ListGives xs out r out′
-  unfolding answerValue
+  unfolding answerValue answerSecond
   list-wrote l q R =
-      shown-wrote (numbers xs) out (omega (arith, l, answer-length xs)) (q ∙ ap (written out 0) (sym (answer-bytes xs))) (rw (← answer-length xs) at R)
+      shown-wrote (numbers xs) out refl (omega (arith, l, answer-length xs)) (q ∙ ap (written out 0) (sym (answer-bytes xs))) (rw (← answer-length xs) at R)
 
 -- ---- what is marked is what passes a test
 

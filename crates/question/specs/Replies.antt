@@ -1,5 +1,5 @@
 -- What a checked answer gives a caller, and the ways to it. Assumes nothing.
-use mathlib.Core.Path.{_≡_, refl, _∙_}
+use mathlib.Core.Path.{_≡_, refl, sym, ap, _∙_}
 use mathlib.Core.List.{List, _++_}
 use Prim.Native.Nat.{ℕ, _≤_, _<_}
 use native.Mathlib.Omega.{arith}
@@ -7,16 +7,16 @@ use lib.ListN.{length, drop}
 use borrow.Author.Tests.{lt-ltb, le-ltb}
 use Rattle.truss.specs.Graph.{Graph}
 use Rattle.truss.specs.Refusal.{Checked, passed, refused, refuse, andThen}
-use Rattle.truss.specs.Question.{Question, Answer, number, numbers, answer}
-use Rattle.truss.specs.Call.{Written, done, notDone, withRoom, overwrite, answerBytes, answerValue}
+use Rattle.truss.specs.Question.{Question, Answer, two-numbers, number, numbers, answer}
+use Rattle.truss.specs.Call.{Written, doneWith, notDone, withRoom, overwrite, answerBytes, answerValue, answerSecond, answerReply}
 use Rattle.index.specs.declared.Reply.{Reply as CReply}
 use Rattle.wire.specs.Writing.{written, written-start}
 use Rattle.index.specs.Build.{replyIn, replied, Replies, reply-with, reply-same}
 
 -- a checked answer in the reply and the buffer
 unfoldable pub given : Checked Answer → List ℕ → Written
-unfolding answerBytes answerValue
-given (passed a) buffer = record { reply = done (answerValue a); buffer = overwrite (answerBytes a) buffer }
+unfolding answerBytes answerValue answerSecond
+given (passed a) buffer = record { reply = answerReply a; buffer = overwrite (answerBytes a) buffer }
 given (refused r) buffer = record { reply = notDone r; buffer = buffer }
 
 -- a question on a graph, with 12
@@ -40,11 +40,11 @@ module _ (x : Answer) (out : List ℕ) where
   unfolding given
   shown-no-room l R = reply-with out R ∙ rw (lt-ltb (length out) (length (answerBytes x)) l, given) refl
 
-  pub shown-wrote : {r : CReply} {out′ : List ℕ} → length (answerBytes x) ≤ length out → out′ ≡ written out 0 (answerBytes x) → Replies r 0 (answerValue x) → Shown x out r out′
+  pub shown-wrote : {r : CReply} {out′ : List ℕ} → answerSecond x ≡ 0 → length (answerBytes x) ≤ length out → out′ ≡ written out 0 (answerBytes x) → Replies r 0 (answerValue x) → Shown x out r out′
   unfolding given
-  shown-wrote {r} {out′} l q R =
+  shown-wrote {r} {out′} plain l q R =
       let e : out′ ≡ answerBytes x ++ drop (length (answerBytes x)) out = q ∙ written-start out (answerBytes x) in
-      let v : replyIn r ≡ done (answerValue x) = reply-same R in
+      let v : replyIn r ≡ answerReply x = reply-same R ∙ ap (doneWith (answerValue x)) (sym plain) in
       rw (le-ltb (length out) (length (answerBytes x)) l, given) (λ i. record { reply = v i; buffer = e i })
 
 module _ (G : Graph) (q : Question) (out : List ℕ) where
@@ -53,8 +53,14 @@ module _ (G : Graph) (q : Question) (out : List ℕ) where
   answer-refused e R = reply-with out R ∙ rw (e, andThen, given) refl
 
   pub answer-number : {x : ℕ} {r : CReply} → answer G q ≡ passed (number x) → Replies r 0 x → Answers G q out r out
-  unfolding roomed given andThen answerBytes answerValue
-  answer-number e R = reply-with out R ∙ rw (e, andThen, answerBytes, le-ltb (length out) 0 (omega arith), given, answerValue) refl
+  unfolding roomed given andThen answerBytes answerValue answerSecond
+  answer-number e R = reply-with out R ∙ rw (e, andThen, answerBytes, le-ltb (length out) 0 (omega arith), given, answerValue, answerSecond) refl
+
+  pub answer-two : {x y : ℕ} {r : CReply} → answer G q ≡ passed (two-numbers x y) → replyIn r ≡ doneWith x y → Answers G q out r out
+  unfolding roomed given andThen answerBytes answerValue answerSecond
+  answer-two {x} {y} {r} e v =
+      let R : replied r out ≡ record { reply = doneWith x y; buffer = out } = λ i. record { reply = v i; buffer = out } in
+      R ∙ rw (e, andThen, answerBytes, le-ltb (length out) 0 (omega arith), given, answerValue, answerSecond) refl
 
   pub answer-shown : {x : Answer} {r : CReply} {out′ : List ℕ} → answer G q ≡ passed x → Shown x out r out′ → Answers G q out r out′
   unfolding roomed andThen

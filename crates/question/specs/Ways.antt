@@ -10,7 +10,7 @@ use Rattle.truss.specs.Graph.{Graph, link, member}
 use Rattle.truss.specs.Shortest.{shortestChain}
 use Rattle.truss.specs.Refusal.{passed, refuse}
 use Rattle.truss.specs.Question.{chain, answer, outside, badLevel, ask-chain}
-use Rattle.truss.specs.Call.{answerValue}
+use Rattle.truss.specs.Call.{answerValue, answerSecond}
 use Rattle.laws.proofs.ShortestRoom.{chain-room}
 use Rattle.columns.specs.Columns.{COLUMNS}
 use Rattle.columns.specs.Wiping.{zeros}
@@ -64,7 +64,7 @@ module _ {k a b c d r : ℕ} {s out out′ : List ℕ} (A : Answered k a b c d r
       (answer-shown (graphIn s) (ask-chain k a b c d) out e (shown-no-room (chain (shortestChain (graphIn s) k (link a b) (link c d))) out (omega (arith, l, A .long)) R))
 
   pub way-wrote : {p : CReply} → r ≤ length out → Replies p 0 r → Answers (graphIn s) (ask-chain k a b c d) out p out′
-  unfolding answerValue
+  unfolding answerValue answerSecond
   way-wrote l R =
       answer-shown (graphIn s) (ask-chain k a b c d) out e
-      (shown-wrote (chain (shortestChain (graphIn s) k (link a b) (link c d))) out (omega (arith, l, A .long)) (A .fits l) (rw (A .long) at R))
+      (shown-wrote (chain (shortestChain (graphIn s) k (link a b) (link c d))) out refl (omega (arith, l, A .long)) (A .fits l) (rw (A .long) at R))

@@ -1,4 +1,4 @@
-// Questions on links: A, the strength of one; B, the largest k at which two are joined; F, the links of the group at k with one.
+// Questions on links: A, the strength of one and the triangles of at least that weight that hold it; B, the largest k at which two are joined; F, the links of the group at k with one.
 ghost use mathlib.Core.Path.{_≡_};
 ghost use Prim.Native.Nat.{_+_, _*_, _<_, _≤_};
 ghost use lib.Dec.{eqb};
@@ -9,13 +9,14 @@ ghost use Rattle.truss.specs.Group.{groupAt};
 ghost use Rattle.truss.specs.Question.{ask-joined, ask-links, ask-strength};
 ghost use Rattle.laws.proofs.Groups.{size};
 ghost use Rattle.columns.specs.Columns.{COLUMNS};
-ghost use Rattle.stored.specs.Rows.{Outlined, graphIn};
+ghost use Rattle.stored.specs.Rows.{IsIndex, Outlined, graphIn};
 ghost use Rattle.question.specs.Replies.{Answers};
-ghost use Rattle.question.specs.Links.{GroupsGiven, Inside, InsideAsks, JoinedGives, Members, MembersAsks, NumberGives};
+ghost use Rattle.question.specs.Links.{FirmnessGives, GroupsGiven, Inside, InsideAsks, JoinedGives, Members, MembersAsks, NumberGives};
 use crate::lists::give;
 use columns::put;
 use index::Reply;
 use index::answered;
+use index::answered_two;
 use index::open::Outline;
 use limits::LEAST_LEVEL;
 use limits::MaybeStrength;
@@ -25,8 +26,25 @@ use limits::bad_level;
 use stored::climb::group_at;
 use stored::find::find_link;
 use stored::rows::link_strength;
+use support::support_at;
 
-// A. The strength of a link.
+// The strength of link e, and how many triangles of at least that weight hold it.
+fn strength_and_support(s: &[u8], m: usize, e: usize) -> Reply
+    requires { ⌜ IsIndex (now s) ⌝ }
+    requires { ⌜ size (graphIn (now s)) ≡ m ⌝ }
+    requires { ⌜ e < m ⌝ }
+    ensures { λ r. ⌜ FirmnessGives (graphIn (now (s .entry))) e r ⌝ }
+{
+    let t = link_strength(s, e);
+    let x = support_at(s, m, e, t);
+    match Strength::of(t) {
+        MaybeStrength::Known(k) => answered_two(k.number() as u32, x as u32),
+        // No link of an index has another strength (laws: strength-at-least-2, strength-max).
+        MaybeStrength::OutOfRange => answered(7, 0),
+    }
+}
+
+// A. The strength of a link, and how many triangles of at least that weight hold it.
 pub fn strength_of(s: &[u8], o: Outline, a: usize, b: usize) -> Reply
     requires { ⌜ Outlined (now s) o ⌝ }
     ensures { λ r. ⌜ NumberGives (graphIn (now (s .entry))) (ask-strength a b) r ⌝ }
@@ -41,11 +59,7 @@ pub fn strength_of(s: &[u8], o: Outline, a: usize, b: usize) -> Reply
     if e == o.m {
         return answered(11, 0);
     }
-    match Strength::of(link_strength(s, e)) {
-        MaybeStrength::Known(k) => answered(0, k.number() as u32),
-        // No link of an index has another strength (laws: strength-at-least-2, strength-max).
-        MaybeStrength::OutOfRange => answered(7, 0),
-    }
+    strength_and_support(s, o.m, e)
 }
 
 // Whether link f is in the group at k with link e.

@@ -43,7 +43,7 @@ pub extern "C" fn fe_withdraw(index: &[u8], a: u32, b: u32, out: &mut [u8]) -> R
     changes::withdraw(index, out, a as usize, b as usize)
 }
 
-// A. The strength of link a-b.
+// A. The strength of link a-b, and how many triangles of at least that weight hold it.
 #[no_mangle]
 pub extern "C" fn fe_strength(index: &[u8], a: u32, b: u32, window: u32, desk: &mut [u8]) -> Reply
     ensures { λ r. ⌜ AskBytesGives (now (index .entry)) (ask-strength a b) [] window (now (desk .entry)) r [] (now (desk .exit)) ⌝ }
