@@ -9,5 +9,5 @@ int main(void) {
     if (build.refusal != 0) return printf("refused %u %u\n", build.refusal, build.value), 1;
     fe_reply asked = fe_strength(built, build.value, 2, 3, 0, desk, sizeof desk);
     if (asked.refusal != 0) return printf("refused %u\n", asked.refusal), 1;
-    printf("%u bytes, link 2-3 has strength %u\n", build.value, asked.value);
+    printf("%u bytes, link 2-3 has strength %u, held by %u triangles\n", build.value, asked.value, asked.second);
 }

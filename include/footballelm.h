@@ -12,7 +12,8 @@ extern "C" {
 /* What a call gives back.
  *   refusal  0: done. Else the number of the refusal.
  *   value    done: as the call says. Refused: the place.
- *   second, third  0. Kept for later calls. */
+ *   second   done: the triangles of question A; 0 of every other call. Refused: 0.
+ *   third    0. Kept for later calls. */
 typedef struct {
     uint32_t refusal, value, second, third;
 } fe_reply;
@@ -31,7 +32,7 @@ typedef struct {
 #define FE_DESK 128
 
 /* Bytes of stack that are enough for any call, below the caller's frame. No function calls itself, directly or through others, and each frame has a fixed size, so the
- * deepest row of calls bounds every call, whatever is lent: 156,136 bytes of fe_build, 147,992 of fe_read, 148,040 of a change, 148,952 of a question. Summed from
+ * deepest row of calls bounds every call, whatever is lent: 156,136 bytes of fe_build, 147,992 of fe_read, 148,040 of a change, 153,032 of a question. Summed from
  * the object code (tests/frames) and measured (tests/c/stack.c), not proved. The other 7,704 bytes are for the C library's memset and memcpy: a first call that had to
  * bind memset took 3,136 of them. A thread needs all this and what its own functions take. */
 #define FE_STACK_MAX 163840
@@ -128,7 +129,7 @@ fe_reply fe_withdraw(const uint8_t *index, size_t index_len, uint32_t a, uint32_
  *                           how many questions of that window were answered. Window w has the bytes from 4 * w on. Calls that are lent the same record take
  *                           turns, also if their windows differ.
  *
- * Done: `value` is the answer of A and B, the number of bytes written at `answer` by C to G; the bytes after those stay. The window's tally is one more, but rests
+ * Done: `value` is A's strength, with A's triangles in `second`; the answer of B; the number of bytes written at `answer` by C to G, and the bytes after those stay. The window's tally is one more, but rests
  * at 4,294,967,295; the other tallies and the bytes of the desk record after FE_DESK stay.
  *
  * Refused, with place 0: the first of the call's refusals that applies. Every tally stays.
@@ -141,7 +142,8 @@ fe_reply fe_withdraw(const uint8_t *index, size_t index_len, uint32_t a, uint32_
  *     12  the answer is longer than answer_len; a buffer of just its length suffices, which is two bytes for a count of 0. Or desk_len is below FE_DESK,
  *         whatever the window */
 
-/* A. The strength of the link a-b. Refused by 13, 7, 9, 11, 12, in this order. */
+/* A. The strength s of the link a-b, as `value`, and how firmly it holds, as `second`: how many triangles have the link and only links of strength s or more. At
+ * strength 2 there are none; at s from 3 up there are s - 2 or more. Refused by 13, 7, 9, 11, 12, in this order. */
 fe_reply fe_strength(const uint8_t *index, size_t index_len, uint32_t a, uint32_t b, uint32_t window, uint8_t *desk, size_t desk_len);
 
 /* B. The largest k at which the links a-b and c-d are in one group, 0 if there is none; a link with itself gives its strength, or 0 at strength 2.

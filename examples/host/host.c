@@ -59,7 +59,13 @@ static void refused(fe_reply r) {
     why(r);
 }
 
-/* The answer of A and B: a number. */
+/* The answer of A: the strength, and how many triangles of at least that weight hold the link. */
+static void strength(const char *link, fe_reply r) {
+    if (r.refusal) refused(r);
+    else printf("Strength of %s: %u, held by %u triangle%s.\n", link, r.value, r.second, r.second == 1 ? "" : "s");
+}
+
+/* The answer of B: a number. */
 static void number(const char *text, fe_reply r) {
     if (r.refusal) refused(r);
     else printf("%s: %u.\n", text, r.value);
@@ -160,8 +166,8 @@ int main(void) {
     length = r.value;
     printf("Card B: %u accounts, %u links, an index of %zu bytes.\n", two(index_bytes + 1), two(index_bytes + 3), length);
 
-    number("Strength of 2-3", fe_strength(index_bytes, length, 2, 3, PAYOUTS, desk, sizeof desk));
-    number("Strength of 4-2", fe_strength(index_bytes, length, 4, 2, PAYOUTS, desk, sizeof desk));
+    strength("2-3", fe_strength(index_bytes, length, 2, 3, PAYOUTS, desk, sizeof desk));
+    strength("4-2", fe_strength(index_bytes, length, 4, 2, PAYOUTS, desk, sizeof desk));
     number("Greatest k with 2-3 and 3-4 in one group", fe_joined(index_bytes, length, 2, 3, 3, 4, DISPUTES, desk, sizeof desk));
     r = fe_groups_at(index_bytes, length, THREE, sizeof THREE, 4, answer, sizeof answer, PAYOUTS, desk, sizeof desk);
     list("Groups at 4 with account 3", r, 0);
