@@ -30,6 +30,11 @@ static uint32_t value[CALLS];
 static uint8_t result[CALLS][ROOM], index_bytes[ROOM];
 static size_t index_len;
 
+/* Question A has a second number: 1-2 is in two triangles of weight 3. */
+static uint32_t second_of(enum call call) {
+    return call == STRENGTH ? 2 : 0;
+}
+
 static uint8_t *untouchable;
 static int passed, failed;
 
@@ -95,8 +100,8 @@ static int right(const struct asked *a, fe_reply reply) {
     memset(buffer, FILL, ROOM);
     if (done && has_buffer(a->call)) memcpy(buffer, result[a->call], value[a->call]);
     desk_after(done && is_question(a->call), desk);
-    return reply.refusal == refusal && reply.value == (done ? value[a->call] : 0) && !reply.second && !reply.third && !memcmp(own.buffer, buffer, ROOM) &&
-           !memcmp(own.desk, desk, RECORD);
+    return reply.refusal == refusal && reply.value == (done ? value[a->call] : 0) && reply.second == (done ? second_of(a->call) : 0) && !reply.third &&
+           !memcmp(own.buffer, buffer, ROOM) && !memcmp(own.desk, desk, RECORD);
 }
 
 /* All states of all slices that the call has, from window 17 and from 32, which there is not; gives how many combinations were wrong. */
@@ -156,7 +161,7 @@ static int long_slices(library *library, uint8_t *memory, enum call call, int co
         slices[which]->at = memory;
         slices[which]->length = which > 1 ? FOUR_GIB + 1 : FOUR_GIB + slices[which]->length;
         fe_reply reply = library(&a);
-        int holds = reply.refusal == refusal && reply.value == wanted && !reply.second && !reply.third;
+        int holds = reply.refusal == refusal && reply.value == wanted && reply.second == (refusal ? 0 : second_of(call)) && !reply.third;
         if (which == 2 && holds) holds = !memcmp(memory, result[call], value[call]);
         desk_after(1, desk);
         if (which == 3 && holds) holds = !memcmp(memory, desk, RECORD);

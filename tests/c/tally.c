@@ -30,7 +30,7 @@ struct known {
     size_t named;
     uint8_t accounts[4];
     size_t room, desk;
-    uint32_t refusal, value;
+    uint32_t refusal, value, second;
     uint8_t answer[8]; /* how the answer begins: eight bytes or all */
     int damaged;       /* on bytes that are no index */
 };
@@ -38,9 +38,10 @@ struct known {
 enum { R = 64, D = RECORD, X = FE_DESK, S = FE_DESK - 1 }; /* a record is longer than it need be, exact, or one byte short */
 
 static const struct known KNOWN[] = {
-    {.call = STRENGTH, .number = {0, 1}, .desk = D, .value = 4},
-    {.call = STRENGTH, .number = {4, 2}, .desk = D, .value = 3},
-    {.call = STRENGTH, .number = {6, 5}, .desk = X, .value = 4},
+    {.call = STRENGTH, .number = {0, 1}, .desk = D, .value = 4, .second = 2},
+    {.call = STRENGTH, .number = {4, 2}, .desk = D, .value = 3, .second = 1},
+    {.call = STRENGTH, .number = {6, 5}, .desk = X, .value = 4, .second = 2},
+    {.call = STRENGTH, .number = {2, 3}, .desk = X, .value = 4, .second = 2}, /* 2-3-4 has weight 3 */
     {.call = STRENGTH, .number = {0, 4}, .desk = D, .refusal = 11},
     {.call = STRENGTH, .number = {0, 7}, .desk = D, .refusal = 9},
     {.call = STRENGTH, .number = {0, 1}, .desk = S, .refusal = 12},
@@ -122,14 +123,14 @@ static int put(struct run *run, const struct known *known, uint32_t window) {
     memcpy(accounts, known->accounts, sizeof accounts);
     asked.accounts = (struct slice){accounts, known->named};
     fe_reply reply = run->call(&asked);
-    uint32_t refusal = window >= FE_WINDOWS ? 13 : known->refusal, value = refusal ? 0 : known->value;
+    uint32_t refusal = window >= FE_WINDOWS ? 13 : known->refusal, value = refusal ? 0 : known->value, second = refusal ? 0 : known->second;
     if (window >= FE_WINDOWS) run->outside++;
     else if (refusal) run->refused++;
     else {
         run->answered[window]++, run->count[window] += run->count[window] < UINT32_MAX;
         put_four(run->wanted + 4 * window, run->count[window]);
     }
-    if (reply.refusal != refusal || reply.value != value || reply.second || reply.third) return 0;
+    if (reply.refusal != refusal || reply.value != value || reply.second != second || reply.third) return 0;
     size_t shown = has_buffer(known->call) ? value : 0;
     return !memcmp(answer, known->answer, shown < 8 ? shown : 8) && !memcmp(run->record, run->wanted, RECORD);
 }

@@ -108,6 +108,53 @@ static fe_reply third_number(const struct asked *a) {
     return reply;
 }
 
+static fe_reply second_number(const struct asked *a) {
+    fe_reply reply = make_call(a);
+    reply.second++;
+    return reply;
+}
+
+static fe_reply no_second_number(const struct asked *a) {
+    fe_reply reply = make_call(a);
+    reply.second = 0;
+    return reply;
+}
+
+static fe_reply each_triangle_twice(const struct asked *a) {
+    fe_reply reply = make_call(a);
+    reply.second *= 2;
+    return reply;
+}
+
+static fe_reply triangle_of_a_weak_link(const struct asked *a) {
+    fe_reply reply = make_call(a);
+    if (reply.refusal == 0 && reply.second == 0) reply.second = 1;
+    return reply;
+}
+
+static fe_reply least_triangles(const struct asked *a) {
+    fe_reply reply = make_call(a);
+    if (reply.refusal == 0) reply.second = reply.value - 2;
+    return reply;
+}
+
+/* Every triangle on the link, by the accounts that are linked with both ends, whatever the strengths. */
+static fe_reply triangles_of_any_weight(const struct asked *a) {
+    fe_reply reply = make_call(a);
+    if (reply.refusal) return reply;
+    reply.second = 0;
+    for (uint32_t c = 0, accounts = two(a->read.at + 1); c < accounts; c++) {
+        int ends = 0;
+        for (const uint8_t *link = a->read.at + 5; *link == 2; link += 8)
+            for (int i = 0; i < 2; i++) {
+                uint32_t low = two(link + 1), high = two(link + 3), end = a->number[i];
+                ends += (low == c && high == end) || (low == end && high == c);
+            }
+        reply.second += ends == 2;
+    }
+    return reply;
+}
+
 static fe_reply exact_is_12(const struct asked *a) {
     fe_reply reply = make_call(a);
     if (reply.refusal == 0 && reply.value == a->buffer.length) reply.refusal = 12, reply.value = 0;
@@ -517,6 +564,14 @@ const struct planted PLANTED[] = {
     {"bytes taken that are no index", READ, takes_no_index},
     {"7 for an index", READ, refuses_an_index},
     {"a strength one less", STRENGTH, one_less},
+    {"no second number of A", STRENGTH, no_second_number},
+    {"each triangle twice", STRENGTH, each_triangle_twice},
+    {"a triangle for a weak link", STRENGTH, triangle_of_a_weak_link},
+    {"s - 2 triangles without a look", STRENGTH, least_triangles},
+    {"triangles of any weight", STRENGTH, triangles_of_any_weight},
+    {"a third number of A", STRENGTH, third_number},
+    {"a second number of B", JOINED, second_number},
+    {"a second number of a build", BUILD, second_number},
     {"joined one level less", JOINED, one_less},
     {"12 before the other refusals", STRENGTH, short_desk_first},
     {"all groups for the strongest", STRONGEST, all_for_strongest},

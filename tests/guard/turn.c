@@ -257,9 +257,9 @@ static const char *changes(const struct asked *asked, int answered, const uint8_
 }
 
 static const char *replies(fe_reply found, fe_reply wanted) {
-    if (found.second || found.third) return "second or third is not 0";
-    if (found.refusal == wanted.refusal && found.value == wanted.value) return NULL;
-    snprintf(fault, sizeof fault, "reply %u %u, should be %u %u", found.refusal, found.value, wanted.refusal, wanted.value);
+    if (found.third) return "third is not 0";
+    if (found.refusal == wanted.refusal && found.value == wanted.value && found.second == wanted.second) return NULL;
+    snprintf(fault, sizeof fault, "reply %u %u %u, should be %u %u %u", found.refusal, found.value, found.second, wanted.refusal, wanted.value, wanted.second);
     return fault;
 }
 

@@ -60,6 +60,8 @@ pub struct Met {
     replies: [[usize; 14]; 7],
     /// By question: answered with the first value of `KINDS`, with the second, with another.
     answers: [[usize; 3]; 7],
+    /// A of strength 3 or more: s - 2 triangles, more of them.
+    triangles: [usize; 2],
     /// By window: answered.
     windows: [usize; WINDOWS as usize],
 }
@@ -93,6 +95,10 @@ impl Met {
         if reply.refusal == 0 {
             let kind = KINDS[at].iter().position(|kind| kind.0 == reply.value);
             self.answers[at][kind.unwrap_or(2)] += 1;
+            if at == 0 && reply.value > 2 {
+                let more = reply.second > reply.value - 2;
+                self.triangles[usize::from(more)] += 1;
+            }
             self.windows[window as usize] += 1;
         }
     }
@@ -105,6 +111,7 @@ impl Met {
             sum(&mut self.replies[at], &other.replies[at]);
             sum(&mut self.answers[at], &other.answers[at]);
         }
+        sum(&mut self.triangles, &other.triangles);
         sum(&mut self.windows, &other.windows);
     }
 
@@ -126,9 +133,11 @@ impl Met {
                 .map(|(name, count)| format!("{name}: {count}"));
             println!("  {letter} {}", counts.collect::<Vec<_>>().join(", "));
         }
+        let [just, more] = self.triangles;
+        println!("  A at s from 3 up with s - 2 triangles: {just}, with more: {more}");
         let least = self.windows.iter().min().expect("windows");
         println!("  answered to each window: {least} or more");
-        all && *least > 0
+        all && just > 0 && more > 0 && *least > 0
     }
 }
 

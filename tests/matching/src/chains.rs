@@ -16,23 +16,29 @@ pub struct Lot {
     pub asked: Vec<(Question, Option<With>)>,
 }
 
-type Pairs = Vec<(u16, u16)>;
+pub type Pairs = Vec<(u16, u16)>;
 
 pub fn all() -> impl Iterator<Item = Lot> {
     let others = faults().into_iter().chain([rooms()]).chain(long_chains());
     cards_of_five().chain(others)
 }
 
-fn ends((a, b): (u16, u16)) -> Ends {
+pub fn ends((a, b): (u16, u16)) -> Ends {
     (a.into(), b.into())
+}
+
+/// The links of every card of five accounts.
+pub fn links_of_five() -> impl Iterator<Item = Pairs> {
+    let pairs = all_pairs(0..5);
+    (0..1_u32 << pairs.len()).map(move |chosen| {
+        let links = (0..pairs.len()).filter(|at| chosen >> at & 1 == 1);
+        links.map(|at| pairs[at]).collect()
+    })
 }
 
 /// Every card of five accounts: every two links, at every k that a link can have.
 fn cards_of_five() -> impl Iterator<Item = Lot> {
-    let pairs = all_pairs(0..5);
-    (0..1_u32 << pairs.len()).map(move |chosen| {
-        let links = (0..pairs.len()).filter(|at| chosen >> at & 1 == 1);
-        let links: Pairs = links.map(|at| pairs[at]).collect();
+    links_of_five().map(|links| {
         let mut asked = Vec::new();
         for (&first, &second) in links.iter().flat_map(|a| links.iter().map(move |b| (a, b))) {
             for k in 3..=5 {
@@ -155,6 +161,14 @@ pub fn net(rows: u16, columns: u16) -> Pairs {
     pairs
 }
 
+/// The same links, the accounts under other numbers.
+pub fn renamed(random: &mut Random, accounts: u16, pairs: &Pairs) -> Pairs {
+    let mut names: Vec<u16> = (0..accounts).collect();
+    random.shuffle(&mut names);
+    let name = |account: u16| names[usize::from(account)];
+    pairs.iter().map(|&(a, b)| (name(a), name(b))).collect()
+}
+
 /// Strips, rings, bands and nets, the accounts as they come and under other numbers: from the first link to the last and back, and between links that are drawn.
 fn long_chains() -> Vec<Lot> {
     let mut random = Random::new(7);
@@ -171,13 +185,11 @@ fn long_chains() -> Vec<Lot> {
     ];
     let mut lots = Vec::new();
     for (accounts, pairs) in shapes {
-        for renamed in [false, true, true] {
-            let mut names: Vec<u16> = (0..accounts).collect();
-            if renamed {
-                random.shuffle(&mut names);
-            }
-            let name = |account: u16| names[usize::from(account)];
-            let links: Pairs = { pairs.iter() }.map(|&(a, b)| (name(a), name(b))).collect();
+        for turn in 0..3 {
+            let links = match turn {
+                0 => pairs.clone(),
+                _ => renamed(&mut random, accounts, &pairs),
+            };
             let (first, last) = (ends(links[0]), ends(links[links.len() - 1]));
             let mut questions = vec![G(first, last, 3), G(last, first, 3), G(first, last, 4)];
             for _ in 0..if links.len() > 1_000 { 10 } else { 40 } {

@@ -10,7 +10,9 @@ use terminal::Question::{self, A, B, C, D, E, F, G};
 
 /// What a question gives.
 pub enum Said {
-    /// The value of A and B.
+    /// The two numbers of A: strength and triangles.
+    Firmness(u32, u32),
+    /// The value of B.
     Value(u32),
     /// The numbers of C to F.
     Numbers(Vec<u16>),
@@ -32,6 +34,9 @@ impl Known {
         let (refusal, value) = (found.reply.refusal, found.reply.value);
         let mut numbers = found.answer.chunks(2).map(|field| two(field, 0));
         match &self.said {
+            Said::Firmness(strength, triangles) => {
+                (refusal, value, found.reply.second) == (0, *strength, *triangles)
+            }
             Said::Value(said) => (refusal, value) == (0, *said),
             Said::Refused(number) => (refusal, value) == (*number, 0),
             Said::Numbers(said) => {
@@ -50,6 +55,11 @@ impl Known {
 
 fn named(accounts: &[u16]) -> Vec<u8> {
     accounts.iter().flat_map(|a| a.to_be_bytes()).collect()
+}
+
+fn firmness(rows: Vec<(Question, u32, u32)>) -> Vec<(Question, Said)> {
+    let said = |(question, strength, triangles)| (question, Said::Firmness(strength, triangles));
+    rows.into_iter().map(said).collect()
 }
 
 fn values(rows: Vec<(Question, u32)>) -> Vec<(Question, Said)> {
@@ -86,7 +96,7 @@ pub fn card_b() -> Vec<(u16, u16)> {
 
 /// All pairs of so many accounts, and for each lower strength down to 3 one account more with so many links less one: each group lies in the next. The links, in
 /// order, with their strengths.
-fn nest(first: u16) -> Vec<((u16, u16), u16)> {
+pub fn nest(first: u16) -> Vec<((u16, u16), u16)> {
     let whole = all_pairs(0..first).into_iter().map(|pair| (pair, first));
     let more = (3..first).flat_map(|strength| {
         let account = 2 * first - 1 - strength;
@@ -140,11 +150,15 @@ pub fn all() -> Vec<Known> {
         "card-a",
         links_file(5, &CARD_A),
         vec![
+            firmness(vec![
+                (A((1, 2)), 3, 2),
+                (A((2, 1)), 3, 2),
+                (A((0, 1)), 3, 1),
+                (A((3, 1)), 3, 1),
+                (A((3, 4)), 2, 0),
+                (A((4, 3)), 2, 0),
+            ]),
             values(vec![
-                (A((1, 2)), 3),
-                (A((2, 1)), 3),
-                (A((3, 4)), 2),
-                (A((4, 3)), 2),
                 (B((3, 4), (3, 4)), 0),
                 (B((3, 4), (4, 3)), 0),
                 (B((1, 2), (2, 1)), 3),
@@ -210,9 +224,13 @@ pub fn all() -> Vec<Known> {
         "card-b",
         links_file(7, &card_b()),
         vec![
+            firmness(vec![
+                (A((2, 3)), 4, 2),
+                (A((4, 3)), 4, 2),
+                (A((2, 4)), 3, 1),
+                (A((0, 1)), 4, 2),
+            ]),
             values(vec![
-                (A((2, 3)), 4),
-                (A((2, 4)), 3),
                 (B((2, 3), (3, 4)), 3),
                 (B((3, 4), (3, 2)), 3),
                 (B((0, 1), (2, 3)), 4),
@@ -274,7 +292,8 @@ pub fn all() -> Vec<Known> {
         "four-and-triangle",
         links_file(6, &four_and_triangle),
         vec![
-            values(vec![(B((2, 3), (3, 4)), 0), (A((3, 4)), 3)]),
+            firmness(vec![(A((3, 4)), 3, 1), (A((2, 3)), 4, 2)]),
+            values(vec![(B((2, 3), (3, 4)), 0)]),
             numbers(vec![
                 (at(&[3], 3), vec![0, 1]),
                 (at(&[3], 4), vec![0]),
@@ -288,7 +307,8 @@ pub fn all() -> Vec<Known> {
         "all-pairs-of-five",
         links_file(5, &all_pairs(0..5)),
         vec![
-            values(vec![(A((0, 4)), 5), (B((0, 1), (3, 4)), 5)]),
+            firmness(vec![(A((0, 4)), 5, 3), (A((3, 2)), 5, 3)]),
+            values(vec![(B((0, 1), (3, 4)), 5)]),
             numbers(vec![
                 (at(&[0], 3), vec![0]),
                 (at(&[0, 1, 2, 3, 4], 4), vec![0]),
@@ -309,7 +329,8 @@ pub fn all() -> Vec<Known> {
         "all-pairs-of-64",
         links_file(64, &all_pairs(0..64)),
         vec![
-            values(vec![(A((0, 63)), 64), (B((0, 1), (62, 63)), 64)]),
+            firmness(vec![(A((0, 63)), 64, 62), (A((31, 32)), 64, 62)]),
+            values(vec![(B((0, 1), (62, 63)), 64)]),
             numbers(vec![
                 (at(&[63], 3), vec![0]),
                 (at(&[63], 64), vec![0]),
@@ -335,11 +356,8 @@ pub fn all() -> Vec<Known> {
         "no-triangle",
         links_file(96, &flat(2_048)),
         vec![
-            values(vec![
-                (A((31, 95)), 2),
-                (B((31, 95), (31, 95)), 0),
-                (B((0, 32), (0, 33)), 0),
-            ]),
+            firmness(vec![(A((31, 95)), 2, 0), (A((0, 32)), 2, 0)]),
+            values(vec![(B((31, 95), (31, 95)), 0), (B((0, 32), (0, 33)), 0)]),
             numbers(vec![
                 (at(&[0], 3), vec![]),
                 (strongest(&[0]), vec![]),
@@ -368,6 +386,18 @@ pub fn all() -> Vec<Known> {
             (every(&[1_023]), vec![]),
         ])],
     );
+    // A link with every other account as a third one: no link is in more triangles.
+    let leaves = (2..1_024).flat_map(|account| [(0, account), (1, account)]);
+    let book: Vec<_> = [(0, 1)].into_iter().chain(leaves).collect();
+    add(
+        "most-triangles",
+        links_file(1_024, &book),
+        vec![firmness(vec![
+            (A((0, 1)), 3, 1_022),
+            (A((0, 2)), 3, 1),
+            (A((1_023, 1)), 3, 1),
+        ])],
+    );
     // A strip of triangles, each sharing a link with the next, has 2,045 links; three more each make all pairs of four accounts.
     let mut strip: Vec<_> = (0..1_023).map(|a| (a, a + 1)).collect();
     strip.extend((0..1_022).map(|a| (a, a + 2)));
@@ -389,7 +419,13 @@ pub fn all() -> Vec<Known> {
                 (G((0, 1), (2, 3), 4), vec![[0, 1, 2], [0, 2, 3]]),
                 (G((0, 1), (500, 503), 4), vec![]),
             ]),
-            values(vec![(B((0, 1), (1_022, 1_023)), 3), (A((0, 3)), 4)]),
+            firmness(vec![
+                (A((0, 3)), 4, 2),
+                (A((1, 2)), 4, 2),
+                (A((2, 3)), 4, 2),
+                (A((3, 4)), 3, 2),
+            ]),
+            values(vec![(B((0, 1), (1_022, 1_023)), 3)]),
             numbers(vec![
                 (F((1_022, 1_023), 3), (0..2_048).collect()),
                 (every(&[0, 1_023]), vec![3]),
@@ -416,9 +452,15 @@ pub fn all() -> Vec<Known> {
     let nested = nest(46);
     let pairs: Vec<_> = nested.iter().map(|&(pair, _)| pair).collect();
     let mut rows = vec![
+        firmness(vec![
+            (A((0, 88)), 3, 1),
+            (A((0, 46)), 45, 43),
+            // in 87 triangles, of every weight from 3 on
+            (A((0, 1)), 46, 44),
+            (A((1, 0)), 46, 44),
+            (A((44, 45)), 46, 44),
+        ]),
         values(vec![
-            (A((0, 88)), 3),
-            (A((0, 46)), 45),
             (B((44, 45), (0, 88)), 3),
             (B((0, 46), (44, 45)), 45),
             (B((0, 46), (1, 47)), 44),
