@@ -103,9 +103,9 @@ fn chains(index: &Index) -> [Question; 2] {
     })
 }
 
-/// One question of each kind with much to do, of G two. The accounts and the link of F are of the group with the most links, the accounts those with the most
+/// One question of each kind with much to do, of A and G two. The second link of A is one with the most links at its ends. The accounts and the link of F are of the group with the most links, the accounts those with the most
 /// links in all.
-fn questions(index: &Index) -> [Question; 8] {
+fn questions(index: &Index) -> [Question; 9] {
     let held_by = |link: &StrongLink| index.climb(link.group).collect::<BTreeSet<_>>();
     let ends = |link: &StrongLink| (link.lower.into(), link.higher.into());
     let links: &[StrongLink] = &index.links;
@@ -131,6 +131,9 @@ fn questions(index: &Index) -> [Question; 8] {
         links_at[usize::from(link.lower)] += 1;
         links_at[usize::from(link.higher)] += 1;
     }
+    let at_ends =
+        |link: &&StrongLink| links_at[usize::from(link.lower)] + links_at[usize::from(link.higher)];
+    let busiest = links.iter().max_by_key(at_ends).unwrap_or(last);
     let accounts = in_largest.flat_map(|link| [link.lower, link.higher]);
     let accounts: BTreeSet<u16> = accounts.collect();
     let mut accounts: Vec<u16> = accounts.into_iter().collect();
@@ -141,6 +144,7 @@ fn questions(index: &Index) -> [Question; 8] {
     let [longest, middle] = chains(index);
     [
         Question::A(ends(last)),
+        Question::A(ends(busiest)),
         Question::B(ends(deepest), ends(farthest)),
         Question::C(named.clone(), 3),
         Question::D(named.clone()),
@@ -205,12 +209,14 @@ fn main() {
 
         let questions = questions(&Index::read(RULES, index).expect("an index"));
         let (mut answer, mut desk) = ([0; ANSWER_MAX], [0; DESK]);
-        let mut notes = [const { String::new() }; 8];
+        let mut notes = [const { String::new() }; 9];
         for (question, note) in questions.iter().zip(&mut notes) {
             let reply = terminal::put(question, index, &mut answer, &mut desk);
             assert!(reply.refusal == 0, "a question is refused");
-            if let Question::G(_, _, k) = question {
-                *note = format!(" ({} at {k})", two(&answer, 0));
+            match question {
+                Question::A(_) => *note = format!(" ({} at {})", reply.second, reply.value),
+                Question::G(_, _, k) => *note = format!(" ({} at {k})", two(&answer, 0)),
+                _ => {}
             }
         }
 
@@ -220,7 +226,7 @@ fn main() {
         let mut library = Least(Duration::MAX);
         let mut reading = Least(Duration::MAX);
         let mut reference = Least(Duration::MAX);
-        let mut asking = [const { Least(Duration::MAX) }; 8];
+        let mut asking = [const { Least(Duration::MAX) }; 9];
         let mut changing = [const { Least(Duration::MAX) }; 2];
         for _ in 0..TURNS {
             library.time(|| terminal::build(black_box(&file), &mut ours));
@@ -256,8 +262,8 @@ fn main() {
             changed += &format!(" {:.2} |", least.micros() / library.micros());
         }
     }
-    println!("\n| card | A / build | B / build | C / build | D / build | E / build | F / build | G / build, longest | G / build, middle |");
-    println!("|---|---|---|---|---|---|---|---|---|{asked}");
+    println!("\n| card | A / build, last link | A / build, most links | B / build | C / build | D / build | E / build | F / build | G / build, longest | G / build, middle |");
+    println!("|---|---|---|---|---|---|---|---|---|---|{asked}");
     println!("\n| card | put in / build | withdraw / build |");
     println!("|---|---|---|{changed}");
 }
