@@ -1,5 +1,5 @@
 -- What the answers to questions B to F mean: which groups and links are listed, that repeats change nothing, that an account without links is in no
--- group. And when two accounts are refused by 9; and that a tally reads back as it was written.
+-- group. And when named accounts are refused by 8 and 9, a level by 10, and what a refused question leaves; how long a list is; and that a tally reads back as it was written.
 use mathlib.Core.Path.{_≡_, refl, sym, ap, _∙_, subst}
 use mathlib.Core.Logic.{_⊎_, inl, inr, _↔_}
 use mathlib.Core.Bool.{Bool, true, false, cond, _&&_, _||_, not}
@@ -8,24 +8,31 @@ use mathlib.Core.List.{List·Memᴰ as In}
 use Prim.Native.Nat.{ℕ, _+_, _*_, _/_, _%_, _≤_, _<_}
 use native.Mathlib.Nat.{le-antisymm, le-refl, div-div-eq-div-mul, div-add-mod'}
 use native.Mathlib.Omega.{arith}
-use lib.Dec.{ltb, leb}
+use lib.Dec.{eqb, ltb, leb}
 use lib.ListN.{length, getD}
-use borrow.Author.Tests.{leb-true, leb-false, le-leb, lt-leb, ltb-true, ltb-false}
-use Rattle.truss.specs.Limits.{minLevel, maxTally}
-use Rattle.truss.specs.Lists.{any, all, range}
+use borrow.Author.Tests.{ne-eqb, eqb-false, leb-true, leb-false, le-leb, lt-leb, lt-ltb, le-ltb, ltb-true, ltb-false}
+use Rattle.truss.specs.Limits.{minLevel, maxLevel, maxNamed, maxTally, windows}
+use Rattle.truss.specs.Lists.{any, all, range, concatMap}
 use Rattle.truss.specs.Graph.{Link, Graph, linkAt, ends, member}
 use Rattle.truss.specs.Strength.{strength}
 use Rattle.truss.specs.Group.{Group, groups, groupAt, leastLink}
-use Rattle.truss.specs.Question.{outside, joinedUpTo, holds, holdsAll, emptyGroup, numbersOf, isGroupAt, groupsHolding, strongestHolding, allHolding}
-use Rattle.truss.specs.Call.{tallyBytes, tallyIn}
+use Rattle.truss.specs.Refusal.{passed, refuse, andThen}
+use Rattle.truss.specs.Record.{field}
+use Rattle.truss.specs.IndexFile.{readIndex}
+use Rattle.truss.specs.Question.{Question, answer, numbers, badCount, outside, badLevel, joinedUpTo, holds, holdsAll, emptyGroup, numbersOf, isGroupAt, groupsHolding, strongestHolding, allHolding}
+use Rattle.truss.specs.Call.{answerBytes, checkedAnswer, settle, ask, tallyBytes, tallyIn}
+use Rattle.truss.specs.Windows.{refusedBy}
+use Rattle.truss.specs.Order.{WellCounted, Level}
 use Rattle.laws.proofs.Proper.{Proper}
-use Rattle.laws.proofs.Lists.{test, bool-same, both, true-not-false, and-left, and-right}
-use Rattle.laws.proofs.Members.{filter-in, in-filter, filter-none, range-in, in-range, first-in, any-in}
+use Rattle.laws.proofs.Lists.{test, bool-same, both, true-not-false, and-left, and-right, or-left-false, or-right-false}
+use Rattle.laws.proofs.Numbers.{less-or-not}
+use Rattle.laws.proofs.Members.{filter-in, in-filter, filter-none, range-in, in-range, first-in, any-in, in-any}
 use Rattle.laws.proofs.Sets.{all-in, in-all, filter-same, eq-same-list, same-list-eq}
 use Rattle.laws.proofs.Chains.{strength-at-least, at-least-strength}
 use Rattle.laws.proofs.Groups.{size, strengthAt, group-self, group-rebase}
 use Rattle.laws.proofs.Stored.{groupCount, stored, stored-number}
 use Rattle.laws.proofs.Meaning.{joined-up-to-max, joined-up-to-is}
+use Rattle.laws.proofs.Size.{concatMap-length}
 
 -- ---- 9, of two accounts
 
@@ -42,6 +49,83 @@ module _ (G : Graph) (a b : ℕ) where
   pub not-outside : a < G .n → b < G .n → outside G (a ∷ b ∷ []) ≡ false
   unfolding outside any
   not-outside l h = rw (lt-leb (G .n) a l, lt-leb (G .n) b h) refl
+
+-- ---- 8, 9 and 10, of named accounts and a level
+
+module _ (named : List ℕ) where
+  pub well-counted : WellCounted named → badCount named ≡ false
+  well-counted (c, some, few, q) =
+      rw (
+        ne-eqb (length named) 0 (λ z. omega (arith, some, q, z)),
+        le-ltb (maxNamed * 2) (length named) (omega (arith, few, q)),
+        ne-eqb (length named % 2) 1 (λ o. omega (arith, q, o)),
+      ) refl
+
+  pub counted-well : badCount named ≡ false → WellCounted named
+  counted-well f =
+      let none = eqb-false (length named) 0 (or-left-false (eqb (length named) 0) _ f) in
+      let rest = or-right-false (eqb (length named) 0) _ f in
+      let few = ltb-false (maxNamed * 2) (length named) (or-left-false (ltb (maxNamed * 2) (length named)) _ rest) in
+      let even = eqb-false (length named % 2) 1 (or-right-false (ltb (maxNamed * 2) (length named)) _ rest) in
+      (length named / 2, omega (arith, none, even), omega (arith, few), omega (arith, even))
+
+  pub ill-counted : ¬ WellCounted named → badCount named ≡ true
+  ill-counted n = go (test (badCount named))
+    where
+      go : (badCount named ≡ true) ⊎ (badCount named ≡ false) → badCount named ≡ true
+      go (inl t) = t
+      go (inr f) = absurd (n (counted-well f))
+
+module _ (G : Graph) (vs : List ℕ) where
+  pub all-inside : ((v : ℕ) → In v vs → v < G .n) → outside G vs ≡ false
+  unfolding outside
+  all-inside h = go (test (any (leb (G .n)) vs))
+    where
+      go : (any (leb (G .n)) vs ≡ true) ⊎ (any (leb (G .n)) vs ≡ false) → any (leb (G .n)) vs ≡ false
+      go (inl t) = let r = any-in (leb (G .n)) vs t in absurd (omega (arith, leb-true (G .n) (r .0) (r .2), h (r .0) (r .1)))
+      go (inr f) = f
+
+  pub inside-all : outside G vs ≡ false → (v : ℕ) → In v vs → v < G .n
+  unfolding outside
+  inside-all f v m = go (less-or-not v (G .n))
+    where
+      go : (v < G .n) ⊎ (G .n ≤ v) → v < G .n
+      go (inl l) = l
+      go (inr l) = absurd (true-not-false (in-any (leb (G .n)) vs m (le-leb (G .n) v l)) f)
+
+  pub not-inside : ¬ ((v : ℕ) → In v vs → v < G .n) → outside G vs ≡ true
+  not-inside n = go (test (outside G vs))
+    where
+      go : (outside G vs ≡ true) ⊎ (outside G vs ≡ false) → outside G vs ≡ true
+      go (inl t) = t
+      go (inr f) = absurd (n (inside-all f))
+
+module _ (k : ℕ) where
+  pub is-level : Level k → badLevel k ≡ false
+  is-level (l, h) = rw (le-ltb k minLevel l, le-ltb maxLevel k h) refl
+
+  pub no-level : ¬ Level k → badLevel k ≡ true
+  no-level n = go (less-or-not k minLevel) (less-or-not maxLevel k)
+    where
+      go : (k < minLevel) ⊎ (minLevel ≤ k) → (maxLevel < k) ⊎ (k ≤ maxLevel) → badLevel k ≡ true
+      go (inl l) h = rw (lt-ltb k minLevel l) refl
+      go (inr l) (inl h) = rw (le-ltb k minLevel l, lt-ltb maxLevel k h) refl
+      go (inr l) (inr h) = absurd (n (l, h))
+
+-- the whole call, refused
+pub ask-refused : (bytes : List ℕ) (G : Graph) (q : Question) (r : ℕ) → readIndex bytes ≡ passed G → answer G q ≡ refuse r 0
+    → (buffer : List ℕ) (w : ℕ) (tallies : List ℕ) → w < windows → ask bytes q buffer w tallies ≡ record { reply = refusedBy r; buffer = buffer; tallies = tallies }
+unfolding ask settle checkedAnswer andThen
+ask-refused bytes G q r h e buffer w tallies l = rw (lt-leb windows w l, h, andThen, e, andThen, settle) refl
+
+-- ---- the bytes of a list: two for its count, two for each number
+
+pub fields-length : (xs : List ℕ) → length (concatMap field xs) ≡ 2 * length xs
+fields-length xs = omega (arith, concatMap-length field 2 (λ x. refl) xs)
+
+pub answer-length : (xs : List ℕ) → length (answerBytes (numbers xs)) ≡ 2 + 2 * length xs
+unfolding answerBytes
+answer-length xs = omega (arith, fields-length xs)
 
 -- ---- the groups that pass a test
 

@@ -72,8 +72,8 @@ read bytes buffer = write (checkRoom (mapPassed readBack (readIndex bytes)) buff
 abbrev pub triangleBytes : Triangle → List ℕ
 triangleBytes t = field (t .a) ++ field (t .b) ++ field (t .c)
 
--- "C to F write a two-byte count, then that many two-byte group numbers (F: link numbers), rising." G: "a two-byte count and then" its triangles. A and B
--- write nothing.
+-- "C to F write a two-byte count, then that many two-byte group numbers (F: link numbers)": C to E as `listed`, F rising. G: "a two-byte count and then" its
+-- triangles. A and B write nothing.
 unfoldable pub answerBytes : Answer → List ℕ
 unfolding concatMap
 answerBytes (two-numbers x y) = []

@@ -134,6 +134,40 @@ strip =
     graphOf 8
     (pair 0 1 ∷ pair 1 2 ∷ pair 2 3 ∷ pair 3 4 ∷ pair 4 5 ∷ pair 5 6 ∷ pair 6 7 ∷ pair 0 2 ∷ pair 1 3 ∷ pair 2 4 ∷ pair 3 5 ∷ pair 4 6 ∷ pair 5 7 ∷ [])
 
+-- two groups of strength 3 that share account 2: the triangle 0-1-2, and 2-3-4 with 3-4-5, which holds one account more
+unfoldable pub twoSizes : Graph
+unfolding pair graphOf
+twoSizes = graphOf 6 (pair 0 1 ∷ pair 0 2 ∷ pair 1 2 ∷ pair 2 3 ∷ pair 2 4 ∷ pair 3 4 ∷ pair 3 5 ∷ pair 4 5 ∷ [])
+
+-- a clique of four accounts, and at its account 3 a strip of three triangles, weaker with five accounts
+unfoldable pub strongAndLarge : Graph
+unfolding pair graphOf
+strongAndLarge =
+    graphOf 8
+    (pair 0 1 ∷ pair 0 2 ∷ pair 0 3 ∷ pair 1 2 ∷ pair 1 3 ∷ pair 2 3 ∷ pair 3 4 ∷ pair 3 5 ∷ pair 4 5 ∷ pair 4 6 ∷ pair 5 6 ∷ pair 5 7 ∷ pair 6 7 ∷ [])
+
+-- at account 3 two groups of strength 3: two triangles of four accounts, and 3-4-5 with the clique 4-5-6-7 nested in it, whose own links have three accounts as ends, all its links five
+unfoldable pub largerByNested : Graph
+unfolding pair graphOf
+largerByNested =
+    graphOf 8
+    (pair 0 1 ∷ pair 0 2 ∷ pair 1 2 ∷ pair 1 3 ∷ pair 2 3 ∷ pair 3 4 ∷ pair 3 5 ∷ pair 4 5 ∷ pair 4 6 ∷ pair 4 7 ∷ pair 5 6 ∷ pair 5 7 ∷ pair 6 7 ∷ [])
+
+-- at account 4 two groups of strength 3 and of five accounts: a strip of seven links, and four triangles around account 4, of eight links
+unfoldable pub moreLinks : Graph
+unfolding pair graphOf
+moreLinks =
+    graphOf 9
+    (pair 0 1 ∷ pair 0 2 ∷ pair 1 2 ∷ pair 1 3 ∷ pair 2 3 ∷ pair 2 4 ∷ pair 3 4 ∷ pair 4 5 ∷ pair 4 6 ∷ pair 4 7 ∷ pair 4 8 ∷ pair 5 6 ∷ pair 6 7 ∷ pair 7 8 ∷ pair 5 8 ∷ [])
+
+-- four groups at account 0: the triangle 0-1-2, then 0-3-4 with 3-4-5, the triangle 0-6-7, and the clique 0-8-9-10
+unfoldable pub fan : Graph
+unfolding pair graphOf
+fan =
+    graphOf 11
+    (pair 0 1 ∷ pair 0 2 ∷ pair 1 2 ∷ pair 0 3 ∷ pair 0 4 ∷ pair 3 4 ∷ pair 3 5 ∷ pair 4 5 ∷ pair 0 6 ∷ pair 0 7 ∷ pair 6 7
+    ∷ pair 0 8 ∷ pair 0 9 ∷ pair 0 10 ∷ pair 8 9 ∷ pair 8 10 ∷ pair 9 10 ∷ [])
+
 -- one triangle, and its index of 48 bytes
 unfoldable pub triangle : Graph
 unfolding pair graphOf

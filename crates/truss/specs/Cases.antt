@@ -3,7 +3,7 @@
 -- The limits stand in Figures.
 use mathlib.Core.Path.{_≡_, refl}
 use mathlib.Core.Option.{none, some}
-use mathlib.Core.List.{[], _∷_}
+use mathlib.Core.List.{[], _∷_, _++_}
 use lib.ListN.{length, take, replicate}
 use Rattle.truss.specs.Limits.{noGroup}
 use Rattle.truss.specs.Graph.{link, graphOf, member, support}
@@ -266,6 +266,9 @@ pub record WindowCases : Type 0 where
   D-last-outside : answer triangle (ask-strongest (accounts (0 ∷ 3 ∷ []))) ≡ refuse 9 0
   E-first-outside : answer triangle (ask-all (accounts (3 ∷ 0 ∷ []))) ≡ refuse 9 0
   E-last-outside : answer triangle (ask-all (accounts (0 ∷ 3 ∷ []))) ≡ refuse 9 0
+  C-sixteenth-outside : answer triangle (ask-groups-at 3 (replicate 31 0 ++ (3 ∷ []))) ≡ refuse 9 0
+  D-sixteenth-outside : answer triangle (ask-strongest (replicate 31 0 ++ (3 ∷ []))) ≡ refuse 9 0
+  E-sixteenth-outside : answer triangle (ask-all (replicate 31 0 ++ (3 ∷ []))) ≡ refuse 9 0
   F-first-outside : answer triangle (ask-links 3 3 1) ≡ refuse 9 0
   F-second-outside : answer triangle (ask-links 3 1 3) ≡ refuse 9 0
   -- 10: far below and far above (beside the limits: Figures)
@@ -319,6 +322,9 @@ window-cases = record {
   D-last-outside = refl;
   E-first-outside = refl;
   E-last-outside = refl;
+  C-sixteenth-outside = refl;
+  D-sixteenth-outside = refl;
+  E-sixteenth-outside = refl;
   F-first-outside = refl;
   F-second-outside = refl;
   C-level-0 = refl;

@@ -21,11 +21,12 @@ pub mod Question
 pub mod Call
 pub mod Change
 pub mod Listing
--- what a refused call leaves; what question G answers; the window and the record as bytes; what question A answers; tallies over a run of questions
+-- what a refused call leaves; what question G answers; the window and the record as bytes; what question A answers; what C, D and E list; tallies over a run of questions
 pub mod Kept
 pub mod Ways
 pub mod Windows
 pub mod Firmness
+pub mod Order
 pub mod Run
 -- demand 3
 pub mod Stored
@@ -37,6 +38,7 @@ pub mod Cards
 pub mod Cases
 pub mod StrengthCases
 pub mod ChainCases
+pub mod OrderCases
 pub mod WholeCalls
 pub mod DeskCases
 pub mod ChangeCases

@@ -12,7 +12,7 @@ use Rattle.truss.specs.Refusal.{Checked, passed, refused, mapPassed}
 use Rattle.truss.specs.LinksFile.{readLinks}
 use Rattle.truss.specs.Index.{indexBytes}
 use Rattle.truss.specs.IndexFile.{readIndex}
-use Rattle.truss.specs.Question.{holds}
+use Rattle.truss.specs.Question.{holds, accountsHeld}
 use Rattle.truss.specs.Call.{indexOf}
 
 -- ---- the lister's rows
@@ -33,7 +33,7 @@ row G gs g =
       strength = g .strength;
       parent = parent gs g;
       links = length (g .members);
-      accounts = count (holds G g) (G .n);
+      accounts = accountsHeld G g;
       lo = linkAt G (leastLink g) .lo;
       hi = linkAt G (leastLink g) .hi;
     }

@@ -5,7 +5,7 @@ use Prim.Native.Nat.{ℕ, _*_, _%_}
 use lib.Dec.{eqb, ltb, leb}
 use lib.ListN.{length, getD}
 use Rattle.truss.specs.Limits.{minLevel, maxLevel, maxNamed}
-use Rattle.truss.specs.Lists.{filter, any, all, range, largest, sameList}
+use Rattle.truss.specs.Lists.{filter, any, all, sort, range, count, largest, sameList}
 use Rattle.truss.specs.Graph.{Link, Graph, Triangle, link, linkAt, ends, member, linkNumber}
 use Rattle.truss.specs.Strength.{strength, strengthBound}
 use Rattle.truss.specs.Group.{Group, leastLink, groups, groupAt}
@@ -34,7 +34,7 @@ holdsAll G vs g = all (holds G g) vs
 abbrev pub emptyGroup : Group
 emptyGroup = record { strength = 0; members = [] }
 
--- the numbers, "rising", of the stored groups that pass
+-- the numbers, rising, of the stored groups that pass; C to E sort them after
 unfoldable pub numbersOf : (Group → Bool) → List Group → List ℕ
 unfolding filter range
 numbersOf p gs = filter (λ i. p (getD gs i emptyGroup)) (range 0 (length gs))
@@ -60,6 +60,22 @@ strongestHolding G vs =
 unfoldable pub allHolding : Graph → List ℕ → List ℕ
 unfolding numbersOf groups all holds
 allHolding G vs = numbersOf (holdsAll G vs) (groups G)
+
+-- "then by more accounts held": the accounts of nested groups count, as in the lister's rows
+abbrev pub accountsHeld : Graph → Group → ℕ
+accountsHeld G g = count (holds G g) (G .n)
+
+-- "C, D and E now list by falling strength, then by more accounts held, then by least link." The strength is the stored group's, in C too.
+abbrev pub listedBefore : Graph → Group → Group → Bool
+listedBefore G g h =
+    ltb (h .strength) (g .strength)
+    || (eqb (g .strength) (h .strength)
+    && (ltb (accountsHeld G h) (accountsHeld G g) || (eqb (accountsHeld G g) (accountsHeld G h) && ltb (leastLink g) (leastLink h))))
+
+-- the numbers of stored groups, in that order (laws: listed-is, listed-only)
+unfoldable pub listed : Graph → List ℕ → List ℕ
+unfolding sort groups count holds
+listed G is = let gs = groups G in sort (λ i j. listedBefore G (getD gs i emptyGroup) (getD gs j emptyGroup)) is
 
 -- F. "The links of the group at k with a given link; none if its strength is below k."
 unfoldable pub groupLinks : Graph → ℕ → Link → List ℕ
@@ -112,7 +128,7 @@ noLink G a b = not (member (G .links) (link a b))
 
 -- "A question is checked as 7, 8, 9, 10, 11, 12, those that apply": here 8 to 11; 7 and 12 stand in Call. Each has place 0.
 unfoldable pub answer : Graph → Question → Checked Answer
-unfolding strength supportAt accountsIn outside member joinedUpTo groupsHolding strongestHolding allHolding groupLinks shortestChain
+unfolding strength supportAt accountsIn outside member joinedUpTo groupsHolding strongestHolding allHolding listed groupLinks shortestChain
 answer G (ask-strength a b) =
     refuseIf (outside G (a ∷ b ∷ [])) 9 0
     (refuseIf (noLink G a b) 11 0
@@ -125,15 +141,15 @@ answer G (ask-groups-at k named) =
     refuseIf (badCount named) 8 0
     (refuseIf (outside G (accountsIn named)) 9 0
     (refuseIf (badLevel k) 10 0
-    (passed (numbers (groupsHolding G k (accountsIn named))))))
+    (passed (numbers (listed G (groupsHolding G k (accountsIn named)))))))
 answer G (ask-strongest named) =
     refuseIf (badCount named) 8 0
     (refuseIf (outside G (accountsIn named)) 9 0
-    (passed (numbers (strongestHolding G (accountsIn named)))))
+    (passed (numbers (listed G (strongestHolding G (accountsIn named))))))
 answer G (ask-all named) =
     refuseIf (badCount named) 8 0
     (refuseIf (outside G (accountsIn named)) 9 0
-    (passed (numbers (allHolding G (accountsIn named)))))
+    (passed (numbers (listed G (allHolding G (accountsIn named))))))
 answer G (ask-links k a b) =
     refuseIf (outside G (a ∷ b ∷ [])) 9 0
     (refuseIf (badLevel k) 10 0

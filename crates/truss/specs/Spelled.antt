@@ -1,36 +1,98 @@
 -- Demand 3 in plain words of the definitions: what it says of any files, links and levels, whatever memory was lent; what question A answers (Firmness), and how an answer stands in reply and
--- buffer; what question G answers (Ways); what the window and the record as bytes have to do with a question (Windows); tallies over a run (Run); and links that come and go (Changes).
+-- buffer; what C, D and E list (Order); what question G answers (Ways); what the window and the record as bytes have to do with a question (Windows); tallies over a run (Run); and links that come and go (Changes).
 -- A hypothesis more in one of them, or a conclusion less, fails here; no law fails at it, since the law that is left is weaker and true.
 use mathlib.Core.Path.{_≡_, refl, sym, ap, _∙_, subst}
 use mathlib.Core.Logic.{_⊎_, inl, inr, _↔_, _≢_}
 use mathlib.Core.Bool.{true, false, cond, not, _&&_, _||_}
 use mathlib.Core.List.{List, [], _∷_, _++_, map}
 use mathlib.Core.List.{List·Memᴰ as In}
-use Prim.Native.Nat.{ℕ, suc, _+_, _-_, _≤_, _<_, min}
+use Prim.Native.Nat.{ℕ, suc, _+_, _*_, _-_, _≤_, _<_, min}
 use native.Mathlib.Omega.{arith}
 use lib.Dec.{eqb}
 use lib.ListN.{length, getD, take, drop, set}
-use Rattle.truss.specs.Limits.{maxLinks, minLevel, maxLevel, maxChainBytes}
-use Rattle.truss.specs.Graph.{Link, LinkSet, Pair, Graph, Triangle, Has, link, sameLink, linkOf, graphOf, member}
+use Rattle.truss.specs.Limits.{maxLinks, minLevel, maxLevel, maxNamed, maxChainBytes}
+use Rattle.truss.specs.Lists.{any, concatMap, count}
+use Rattle.truss.specs.Graph.{Link, LinkSet, Pair, Graph, Triangle, Has, link, linkAt, sameLink, linkOf, graphOf, member}
 use Rattle.truss.specs.Strength.{IsStrength}
 use Rattle.truss.specs.Chain.{AtLeast, StrongTriangle, Joined}
 use Rattle.truss.specs.Shortest.{IsShortestFirst, triangleBefore, shortestChain}
 use Rattle.truss.specs.Support.{EachOnce, nothing, and-one}
-use Rattle.truss.specs.Refusal.{Refusal, passed, refused, refuse}
+use Rattle.truss.specs.Group.{Group, leastLink, groups}
+use Rattle.truss.specs.Refusal.{Refusal, passed, refused, refuse, andThen}
+use Rattle.truss.specs.Record.{field}
 use Rattle.truss.specs.LinksFile.{accepted, readLinks}
 use Rattle.truss.specs.Index.{decode, indexBytes}
 use Rattle.truss.specs.IndexFile.{readIndex}
-use Rattle.truss.specs.Question.{Question, Answer, two-numbers, number, numbers, chain, ask-strength}
-use Rattle.truss.specs.Call.{Written, Asked, answerBytes, answerValue, answerSecond, answerReply, settle, build, done, ask, askBytes, tallyAt}
+use Rattle.truss.specs.Question.{Question, Answer, two-numbers, number, numbers, chain, ask-strength, ask-groups-at, ask-strongest, ask-all, accountsIn, emptyGroup, holds, groupsHolding, strongestHolding, allHolding}
+use Rattle.truss.specs.Call.{Written, Asked, answerBytes, answerValue, answerSecond, answerReply, settle, checkedAnswer, build, done, ask, askBytes, tallyAt}
 use Rattle.truss.specs.Stored.{ForestConnects, TreeHolds}
 use Rattle.truss.specs.Demand3.{Builds, AllOrNone, Demand3, OnlyShortMemory}
 use Rattle.truss.specs.Kept.{RefusalKeeps}
 use Rattle.truss.specs.Firmness.{IsFirmness, FirmnessRule}
+use Rattle.truss.specs.Order.{ListedBefore, stronger, larger, earlier, InOrder, and-first, WellCounted, Inside, Level, Means, means-C, means-D, means-E, C-count, C-outside, C-level, D-count, D-outside, E-count, E-outside, OrderRule}
+use Rattle.truss.specs.Order.{nothing as no-group}
 use Rattle.truss.specs.Ways.{Ways}
 use Rattle.truss.specs.Windows.{refusedBy, recordOf, WindowRule, RecordRule}
 use Rattle.truss.specs.Run.{Seen, Run, ownAnswered, Asks, RunTallies, AsksBytes, RunRecord}
 use Rattle.truss.specs.Change.{Change, put-in, withdraw, change}
 use Rattle.truss.specs.Changes.{Tells, moved, Faulty, put-outside, put-equal, put-again, put-full, withdraw-outside, withdraw-none, ChangeRule, Changes, none, one, Changed, ChangesTell}
+
+-- a question writes this list: its count and its numbers, two bytes each, if they fit; else 12
+abbrev ListsAll : List ℕ → Question → List ℕ → Type 0
+ListsAll bytes q js = (buffer : List ℕ) (w : ℕ) (tallies : List ℕ) → w < 32
+    → (2 + 2 * length js ≤ length buffer
+    → ask bytes q buffer w tallies
+    ≡ record {
+      reply = record { refusal = 0; value = 2 + 2 * length js; second = 0; third = 0 };
+      buffer = (field (length js) ++ concatMap field js) ++ drop (2 + 2 * length js) buffer;
+      tallies = set tallies w (min (suc (getD tallies w 0)) 4_294_967_295);
+    })
+    × (length buffer < 2 + 2 * length js → ask bytes q buffer w tallies ≡ record { reply = refusedBy 12; buffer = buffer; tallies = tallies })
+
+-- a question is refused by a number, and what is lent stays
+abbrev RefusesAll : List ℕ → Question → ℕ → Type 0
+RefusesAll bytes q r = (buffer : List ℕ) (w : ℕ) (tallies : List ℕ) → w < 32 → ask bytes q buffer w tallies ≡ record { reply = refusedBy r; buffer = buffer; tallies = tallies }
+
+first-of : {G : Graph} {i : ℕ} {is : List ℕ} → InOrder G (i ∷ is) → ((j : ℕ) → In j is → ListedBefore G (getD (groups G) i emptyGroup) (getD (groups G) j emptyGroup)) × InOrder G is
+first-of (and-first f o) = (f, o)
+
+-- the accounts below n that are an end of one of its links
+abbrev endsOf : Graph → Group → ℕ
+endsOf G g = count (λ v. any (λ i. eqb (linkAt G i .lo) v || eqb (linkAt G i .hi) v) (g .members)) (G .n)
+
+-- stronger; or as strong with more accounts; or as both with an earlier least link
+abbrev BeforeCases : Graph → Group → Group → Type 0
+BeforeCases G g h =
+    (h .strength < g .strength)
+    ⊎ (((g .strength ≡ h .strength) × (endsOf G h < endsOf G g)) ⊎ ((g .strength ≡ h .strength) × (endsOf G g ≡ endsOf G h) × (leastLink g < leastLink h)))
+
+before-cases : {G : Graph} {g h : Group} → ListedBefore G g h → BeforeCases G g h
+unfolding holds
+before-cases (stronger p) = inl p
+before-cases (larger p q) = inr (inl (p, q))
+before-cases (earlier p q r) = inr (inr (p, q, r))
+
+cases-before : {G : Graph} {g h : Group} → BeforeCases G g h → ListedBefore G g h
+unfolding holds
+cases-before (inl p) = stronger p
+cases-before (inr (inl (p, q))) = larger p q
+cases-before (inr (inr (p, q, r))) = earlier p q r
+
+only-one : {G : Graph} {g h : Group} → ((x y : Group) → ListedBefore G x y → ¬ ListedBefore G y x) → ListedBefore G g h ⊎ ListedBefore G h g
+    → (ListedBefore G g h × (¬ ListedBefore G h g)) ⊎ (ListedBefore G h g × (¬ ListedBefore G g h))
+only-one {G} {g} {h} one-way (inl p) = inl (p, one-way g h p)
+only-one {G} {g} {h} one-way (inr p) = inr (p, one-way h g p)
+
+no-level : (k : ℕ) → (k < minLevel) ⊎ (maxLevel < k) → ¬ Level k
+no-level k (inl l) (a, b) = omega arith
+no-level k (inr l) (a, b) = omega arith
+
+-- what a rule gives for one row it gives for every row that is listed
+rule-lists : OrderRule → (bytes : List ℕ) (G : Graph) (q : Question) (is js : List ℕ) → readIndex bytes ≡ passed G → Means G q is → ((i : ℕ) → In i js ↔ In i is) → InOrder G js → ListsAll bytes q js
+rule-lists r bytes G q is js h m same o =
+    let (js′, L, W) = r .gives bytes G q is h m in
+    let e = r .only G is js′ js L same o in
+    subst (ListsAll bytes q) e (λ buffer w tallies l. (W .fits buffer w tallies l, W .short buffer w tallies l))
 
 pub record Spelled : Type 0 where
   same-index : Demand3 → (file file′ : List ℕ) (n n′ : ℕ) (ps ps′ : List Pair) (b b′ lent lent′ : List ℕ)
@@ -72,6 +134,36 @@ pub record Spelled : Type 0 where
       ≡ record { reply = answerReply a; buffer = answerBytes a ++ drop (length (answerBytes a)) buffer; tallies = set tallies w (min (suc (getD tallies w 0)) 4_294_967_295) }
   turned-back : (r : Refusal) (buffer : List ℕ) (w : ℕ) (tallies : List ℕ) → settle (refused r) buffer w tallies
       ≡ record { reply = record { refusal = r .number; value = r .place; second = 0; third = 0 }; buffer = buffer; tallies = tallies }
+  -- 7 in front of 8 to 12, of every question
+  no-index : (bytes : List ℕ) (q : Question) (buffer : List ℕ) (r : Refusal) → readIndex bytes ≡ refused r → checkedAnswer bytes q buffer ≡ refused r
+  -- the accounts that are named: two bytes each, high byte first, to the last
+  named-none : accountsIn [] ≡ []
+  named-next : (x y : ℕ) (b : List ℕ) → accountsIn (x ∷ y ∷ b) ≡ (x * 256 + y) ∷ accountsIn b
+  -- any row of just the groups of before, each before all that come after it: that row is what is written, whatever is lent
+  lists-C : OrderRule → (bytes : List ℕ) (G : Graph) (k : ℕ) (named : List ℕ) (c : ℕ) (js : List ℕ) → readIndex bytes ≡ passed G → 1 ≤ c → c ≤ maxNamed → length named ≡ 2 * c
+      → ((v : ℕ) → In v (accountsIn named) → v < G .n) → minLevel ≤ k → k ≤ maxLevel → ((i : ℕ) → In i js ↔ In i (groupsHolding G k (accountsIn named))) → InOrder G js
+      → ListsAll bytes (ask-groups-at k named) js
+  lists-D : OrderRule → (bytes : List ℕ) (G : Graph) (named : List ℕ) (c : ℕ) (js : List ℕ) → readIndex bytes ≡ passed G → 1 ≤ c → c ≤ maxNamed → length named ≡ 2 * c
+      → ((v : ℕ) → In v (accountsIn named) → v < G .n) → ((i : ℕ) → In i js ↔ In i (strongestHolding G (accountsIn named))) → InOrder G js → ListsAll bytes (ask-strongest named) js
+  lists-E : OrderRule → (bytes : List ℕ) (G : Graph) (named : List ℕ) (c : ℕ) (js : List ℕ) → readIndex bytes ≡ passed G → 1 ≤ c → c ≤ maxNamed → length named ≡ 2 * c
+      → ((v : ℕ) → In v (accountsIn named) → v < G .n) → ((i : ℕ) → In i js ↔ In i (allHolding G (accountsIn named))) → InOrder G js → ListsAll bytes (ask-all named) js
+  -- there is such a row, of as many groups as before
+  listed-row : OrderRule → (bytes : List ℕ) (G : Graph) (named : List ℕ) (c : ℕ) → readIndex bytes ≡ passed G → 1 ≤ c → c ≤ maxNamed → length named ≡ 2 * c
+      → ((v : ℕ) → In v (accountsIn named) → v < G .n) → (js : List ℕ) × ((i : ℕ) → In i js ↔ In i (allHolding G (accountsIn named))) × (length js ≡ length (allHolding G (accountsIn named))) × InOrder G js
+  row-empty : (G : Graph) → InOrder G []
+  row-first : (G : Graph) (i : ℕ) (is : List ℕ) → InOrder G (i ∷ is) ↔ (((j : ℕ) → In j is → ListedBefore G (getD (groups G) i emptyGroup) (getD (groups G) j emptyGroup)) × InOrder G is)
+  before-is : (G : Graph) (g h : Group) → ListedBefore G g h ↔ BeforeCases G g h
+  one-is-first : OrderRule → (G : Graph) (i j : ℕ) → i < length (groups G) → j < length (groups G) → i ≢ j
+      → (ListedBefore G (getD (groups G) i emptyGroup) (getD (groups G) j emptyGroup) × (¬ ListedBefore G (getD (groups G) j emptyGroup) (getD (groups G) i emptyGroup)))
+      ⊎ (ListedBefore G (getD (groups G) j emptyGroup) (getD (groups G) i emptyGroup) × (¬ ListedBefore G (getD (groups G) i emptyGroup) (getD (groups G) j emptyGroup)))
+  before-onward : OrderRule → (G : Graph) (g h o : Group) → ListedBefore G g h → ListedBefore G h o → ListedBefore G g o
+  -- 8, 9, 10, each in front of the next
+  list-8 : OrderRule → (bytes : List ℕ) (G : Graph) (k : ℕ) (named : List ℕ) → readIndex bytes ≡ passed G → ((c : ℕ) → 1 ≤ c → c ≤ maxNamed → length named ≢ 2 * c)
+      → RefusesAll bytes (ask-groups-at k named) 8 × RefusesAll bytes (ask-strongest named) 8 × RefusesAll bytes (ask-all named) 8
+  list-9 : OrderRule → (bytes : List ℕ) (G : Graph) (k : ℕ) (named : List ℕ) (c v : ℕ) → readIndex bytes ≡ passed G → 1 ≤ c → c ≤ maxNamed → length named ≡ 2 * c → In v (accountsIn named) → G .n ≤ v
+      → RefusesAll bytes (ask-groups-at k named) 9 × RefusesAll bytes (ask-strongest named) 9 × RefusesAll bytes (ask-all named) 9
+  list-10 : OrderRule → (bytes : List ℕ) (G : Graph) (k : ℕ) (named : List ℕ) (c : ℕ) → readIndex bytes ≡ passed G → 1 ≤ c → c ≤ maxNamed → length named ≡ 2 * c
+      → ((v : ℕ) → In v (accountsIn named) → v < G .n) → (k < minLevel) ⊎ (maxLevel < k) → RefusesAll bytes (ask-groups-at k named) 10
   shortest-way : Ways → (file : List ℕ) (n : ℕ) (ps : List Pair) → readLinks file ≡ accepted n ps → (k : ℕ) (e f : Link)
       → (Joined (graphOf n ps) k e f → IsShortestFirst (graphOf n ps) k e f (shortestChain (graphOf n ps) k e f))
       × ((ts us : List Triangle) → IsShortestFirst (graphOf n ps) k e f ts → IsShortestFirst (graphOf n ps) k e f us → ts ≡ us)
@@ -143,7 +235,7 @@ told : (file : List ℕ) (n : ℕ) (ps : List Pair) → readLinks file ≡ accep
 told file n ps h = record { pairs = ps; is-index = record { file = file; file-accepted = h; bytes = refl }; names = λ e. (λ m. m, λ m. m) }
 
 pub spelled : Spelled
-unfolding moved settle answerBytes answerValue answerSecond
+unfolding moved settle answerBytes answerValue answerSecond checkedAnswer andThen accountsIn
 spelled = record {
   same-index = λ d file file′ n n′ ps ps′ b b′ lent lent′ h r w h′ r′ w′.
       let s = d file file′ n n′ ps ps′ b b′ h h′ (record { lent = lent; not-refused = r; written = w }) (record { lent = lent′; not-refused = r′; written = w′ }) .same-index in
@@ -179,6 +271,29 @@ spelled = record {
   nothing-B = λ x. refl;
   answered = λ a buffer w tallies. refl;
   turned-back = λ r buffer w tallies. refl;
+  no-index = λ bytes q buffer r h. rw h refl;
+  named-none = refl;
+  named-next = λ x y b. refl;
+  lists-C = λ r bytes G k named c js h some few even inside low high same o.
+      rule-lists r bytes G (ask-groups-at k named) (groupsHolding G k (accountsIn named)) js h (means-C (c, some, few, even) inside (low, high)) same o;
+  lists-D = λ r bytes G named c js h some few even inside same o. rule-lists r bytes G (ask-strongest named) (strongestHolding G (accountsIn named)) js h (means-D (c, some, few, even) inside) same o;
+  lists-E = λ r bytes G named c js h some few even inside same o. rule-lists r bytes G (ask-all named) (allHolding G (accountsIn named)) js h (means-E (c, some, few, even) inside) same o;
+  listed-row = λ r bytes G named c h some few even inside.
+      let (js, L, W) = r .gives bytes G (ask-all named) (allHolding G (accountsIn named)) h (means-E (c, some, few, even) inside) in
+      (js, L .same, L .count, L .in-order);
+  row-empty = λ G. no-group;
+  row-first = λ G i is. ((λ o. first-of o), (λ p. and-first (p .0) (p .1)));
+  before-is = λ G g h. ((λ p. before-cases p), (λ x. cases-before x));
+  one-is-first = λ r G i j li lj n. only-one (r .one-way G) (r .total G i j li lj n);
+  before-onward = λ r. r .onward;
+  list-8 = λ r bytes G k named h n.
+      let bad : ¬ WellCounted named = λ (c, some, few, q). n c some few q in
+      (r .refuses bytes G (ask-groups-at k named) 8 h (C-count bad), r .refuses bytes G (ask-strongest named) 8 h (D-count bad), r .refuses bytes G (ask-all named) 8 h (E-count bad));
+  list-9 = λ r bytes G k named c v h some few q m l.
+      let good : WellCounted named = (c, some, few, q) in
+      let bad : ¬ Inside G named = λ f. let z = f v m in omega (arith, z, l) in
+      (r .refuses bytes G (ask-groups-at k named) 9 h (C-outside good bad), r .refuses bytes G (ask-strongest named) 9 h (D-outside good bad), r .refuses bytes G (ask-all named) 9 h (E-outside good bad));
+  list-10 = λ r bytes G k named c h some few q inside l. r .refuses bytes G (ask-groups-at k named) 10 h (C-level (c, some, few, q) inside (no-level k l));
   shortest-way = λ w file n ps h k e f. let x = w file n ps h k e f in (x .given, x .only, x .none);
   with-itself = λ w file n ps h k e. let x = w file n ps h k e e in ((λ l s. let y = x .itself l s in (y .t, y .one, y .strong, y .holds, y .first)), x .itself-none);
   chain-written = λ w file n ps h k e f. let x = w file n ps h k e f in (x .rising, x .room);

@@ -2,6 +2,7 @@
 ghost use Rattle.truss.specs.Cases.{Cases, RuleCases, WindowCases, FieldCases};
 ghost use Rattle.truss.specs.StrengthCases.{StrengthCases};
 ghost use Rattle.truss.specs.ChainCases.{ChainCases};
+ghost use Rattle.truss.specs.OrderCases.{OrderCases};
 ghost use Rattle.truss.specs.WholeCalls.{WholeCalls};
 ghost use Rattle.truss.specs.DeskCases.{DeskCases};
 ghost use Rattle.truss.specs.ChangeCases.{ChangeCases};
@@ -9,7 +10,7 @@ ghost use Rattle.truss.specs.Figures.{Figures};
 ghost use Rattle.truss.specs.Spelled.{Spelled};
 
 pub fn definitions()
-    ensures { λ _. ⌜ Cases × RuleCases × WindowCases × FieldCases × StrengthCases × ChainCases × WholeCalls × DeskCases × ChangeCases × Figures × Spelled ⌝ }
+    ensures { λ _. ⌜ Cases × RuleCases × WindowCases × FieldCases × StrengthCases × ChainCases × OrderCases × WholeCalls × DeskCases × ChangeCases × Figures × Spelled ⌝ }
 {
     return;
 }
