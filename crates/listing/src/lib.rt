@@ -1,3 +1,2 @@
 // What the lister prints: for each stored group its strength, parent, links with nested ones, accounts held, and the ends of its least link.
-mod counts;
 pub mod rows;

@@ -1,17 +1,17 @@
 // The rows, six numbers to a group.
 ghost use mathlib.Core.Path.{_≡_};
-ghost use Prim.Native.Nat.{_+_, _*_, _<_, _≤_};
+ghost use Prim.Native.Nat.{_*_, _<_, _≤_};
 ghost use lib.ListN.{length};
 ghost use Rattle.columns.specs.Columns.{COLUMNS};
 ghost use Rattle.index.specs.Open.{Opened};
 ghost use Rattle.wire.specs.Writing.{upTo, written};
 ghost use Rattle.listing.specs.Rows.{RowAsks, RowsAsks, RowsGives, rowOf};
-use crate::counts::ACCOUNTS;
-use crate::counts::LINKS;
-use crate::counts::count_all;
 use columns::COLUMNS;
 use columns::get;
 use columns::room;
+use counting::ACCOUNTS;
+use counting::LINKS;
+use counting::count_all;
 use index::Reply;
 use index::answered;
 use index::open::Opening;

@@ -33,7 +33,7 @@ slice-write-out-2 : tie.Need-slice-write-out-2
 slice-write-out-2 c = simp length-set (omega (arith, c .before .before .before .before .before .before .pre .1))
 
 get-requires : tie.Need-get-requires
-get-requires c κs = (omega arith, (row-room (c .before .before .before .before .before .before .pre .0), c .before .before .before .before .before .before .pre .0 .all .counted .size-is))
+get-requires c κs = (omega arith, (row-room (c .before .before .before .before .before .before .pre .0), c .before .before .before .before .before .before .pre .0 .all .size-is))
 
 cast-out-3 : tie.Need-cast-out-3
 cast-out-3 c = search needs
@@ -42,7 +42,7 @@ slice-write-out-3 : tie.Need-slice-write-out-3
 slice-write-out-3 c = simp length-set (omega (arith, c .before .before .before .before .before .before .before .pre .1))
 
 get-requires-2 : tie.Need-get-requires-2
-get-requires-2 c κs = (omega arith, (row-room (c .before .before .before .before .before .before .before .pre .0), c .before .before .before .before .before .before .before .pre .0 .all .counted .size-is))
+get-requires-2 c κs = (omega arith, (row-room (c .before .before .before .before .before .before .before .pre .0), c .before .before .before .before .before .before .before .pre .0 .all .size-is))
 
 cast-out-4 : tie.Need-cast-out-4
 cast-out-4 c = search needs

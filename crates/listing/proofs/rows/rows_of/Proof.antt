@@ -18,7 +18,7 @@ count-all-requires : tie.Need-count-all-requires
 count-all-requires c κs = opened-counts (c .before .before .before .before .before .before .args .index .now) (c .before .before .before .before .before .before .args .out .now) (c .before .before .before .before .before .before .pre .0) (c .before .before .before .before .before .before .pre .1)
 
 put-rows-requires : tie.Need-put-rows-requires
-put-rows-requires c κs = (opened-rows (c .before .before .before .before .before .before .before .before .before .before .before .args .index .now) (c .before .before .before .before .before .before .before .before .before .before .before .args .out .now) (c .before .before .before .before .before .before .before .before .before .before .before .pre .0) (c .before .before .before .before .count-all .ensures), c .before .before .before .before .before .before .if1 .left)
+put-rows-requires c κs = (opened-rows (c .before .before .before .before .before .before .before .before .before .before .before .args .index .now) (c .before .before .before .before .before .before .before .before .before .before .before .args .out .now) (c .before .before .before .before .before .before .before .before .before .before .before .pre .0) (c .before .before .before .before .before .before .before .before .before .before .before .pre .1) (c .before .before .before .before .count-all .ensures), c .before .before .before .before .before .before .if1 .left)
 
 cast-answered : tie.Need-cast-answered
 cast-answered c = omega (arith, opened-few (c .before .before .before .before .before .before .before .before .before .before .before .before .before .before .args .index .now) (c .before .before .before .before .before .before .before .before .before .before .before .before .before .before .args .out .now) (c .before .before .before .before .before .before .before .before .before .before .before .before .before .before .pre .0))

@@ -21,7 +21,7 @@ module _ {b : List ℕ} (I : IsIndex b) where
   rows : length (index G .groups) ≡ groupCount G
   rows = group-rows-length G (proper I) (fits-groups I)
 
-  pub starts : {g h : ℕ} → Leads (index G) g h → g < groupCount G
+  starts : {g h : ℕ} → Leads (index G) g h → g < groupCount G
   starts (arrived l) = omega (arith, l, rows)
   starts (up l w) = omega (arith, l, rows)
 
@@ -36,6 +36,16 @@ module _ {b : List ℕ} (I : IsIndex b) where
   onward (up l v) (arrived k) less = absurd (omega (arith, less, rising (up l v)))
   onward (up l v) (up k w) less = onward v w less
 
+  -- of two groups on the way up, the one that is not greater leads to the other
+  pub between : {g x h : ℕ} → Leads (index G) g x → Leads (index G) g h → x ≤ h → Leads (index G) x h
+  between (arrived l) w le = w
+  between (up l v) (arrived k) le = absurd (omega (arith, le, rising v, parent-rises G (proper I) (fits-groups I) _ (omega (arith, l, rows)) (starts v)))
+  between (up l v) (up k w) le = between v w le
+
+  further : {g x h : ℕ} → Leads (index G) g x → Leads (index G) x h → Leads (index G) g h
+  further (arrived l) w = w
+  further {g} (up l v) w = up {g = g} l (further v w)
+
   -- one step up
   pub step-up : {g x : ℕ} → Leads (index G) g x → parentOf G x < groupCount G → Leads (index G) g (parentOf G x)
   step-up {g} {x} (arrived l) k = up {g = g} l (arrived {g = parentOf G g} (omega (arith, k, rows)))
@@ -47,3 +57,7 @@ module _ {b : List ℕ} (I : IsIndex b) where
 
   pub leads-in : (i h : ℕ) → i < size G → Leads (index G) (ownGroup G i) h → In i (stored G h .members)
   leads-in i h li w = own-holds G (proper I) (fits-groups I) i h li (subst (λ (x : ℕ). Leads (index G) x h) (own-same I i li) w)
+
+  -- a group above one that holds a link holds it too
+  pub held-above : (i h k : ℕ) → i < size G → h < groupCount G → Leads (index G) h k → In i (stored G h .members) → In i (stored G k .members)
+  held-above i h k li lh v m = leads-in i k li (further (in-leads i h li lh m) v)

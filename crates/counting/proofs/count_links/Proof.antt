@@ -1,17 +1,16 @@
--- `listing::counts::count_links` meets its contract. Assumes nothing.
+-- `counting::count_links` meets its contract. Assumes nothing.
 use native.Mathlib.Omega.{arith}
 use mathlib.Core.Path.{_≡_}
-use Prim.Native.Nat.{_-_, _≤_}
-use Rattle.stored.specs.Rows.{graphIn}
-use Rattle.listing.specs.Touching.{Both, both-none, both-then}
-use Rattle.stored.specs.Rows.{sized-few}
-use Rattle.listing.specs.Counting.{Rounds, memberOf, links-more}
-use Rattle.listing.specs.Rows.{rounds-small}
-use Rattle.listing.proofs.counts.count_links.Statement.{statement}
-use Rattle.listing.proofs.counts.count_links.Tie as tie
+use Prim.Native.Nat.{_-_, _≤_, _<_}
+use Rattle.stored.specs.Rows.{graphIn, sized-few}
+use Rattle.counting.specs.Touching.{Both, both-none, both-then}
+use Rattle.counting.specs.Counting.{Rounds, memberOf, links-more, rounds-closed}
+use Rattle.counting.specs.Gives.{rounds-small}
+use Rattle.counting.proofs.count_links.Statement.{statement}
+use Rattle.counting.proofs.count_links.Tie as tie
 
 abbrev Inv-loop : tie.InvT-loop
-Inv-loop s at w₀ m count i₀ w i = (i ≤ m) × Both m 5 w₀ w × Rounds m count 5 i (memberOf (graphIn s)) w
+Inv-loop s at w₀ m count i₀ w i = (i ≤ m) × Both m count 5 w₀ w × Rounds m count 5 i (memberOf (graphIn s)) w
 
 abbrev μ-loop : tie.MeasureT-loop
 μ-loop s at w₀ m count i₀ w i = m - i
@@ -23,7 +22,11 @@ add-touch-link : tie.Need-add-touch-link Inv-loop μ-loop
 add-touch-link c = omega (arith, c .before .loop-test .taken, sized-few (c .before .before .before .before .before .pre .given .sized) .1)
 
 touch-link-requires : tie.Need-touch-link-requires Inv-loop μ-loop
-touch-link-requires c κs = (c .before .before .before .before .before .pre .given, (c .before .loop-test .taken, (c .before .before .loop .inv .2 .size-is, (rounds-small (omega (arith, c .before .loop-test .taken, sized-few (c .before .before .before .before .before .pre .given .sized) .1)) (c .before .before .loop .inv .2), omega (arith, c .before .loop-test .taken, sized-few (c .before .before .before .before .before .pre .given .sized) .1)))))
+touch-link-requires c κs =
+    let A = c .before .before .before .before .before .pre in
+    let R = c .before .before .loop .inv .2 in
+    let l : c .before .before .loop .i < 65535 = omega (arith, c .before .loop-test .taken, sized-few (A .given .sized) .1) in
+    (A .given, (c .before .loop-test .taken, (R .size-is, (rounds-small l R, (rounds-closed (c .before .before .before .before .before .args .s .now) R, omega (arith, l))))))
 
 add-i : tie.Need-add-i Inv-loop μ-loop
 add-i c = omega (arith, c .before .before .before .before .loop-test .taken, sized-few (c .before .before .before .before .before .before .before .before .pre .given .sized) .1)

@@ -1,10 +1,10 @@
 -- A round of touches: a group is counted once in a round, at its first touch. Column 3 has the last round that touched it. Assumes nothing.
-use mathlib.Core.Path.{_≡_, refl, sym, ap, ap₂, _∙_, subst}
+use mathlib.Core.Path.{_≡_, refl, sym, ap, _∙_, subst}
 use mathlib.Core.Logic.{_⊎_, inl, inr, _≢_}
 use mathlib.Core.Bool.{cond}
 use mathlib.Core.List.{List}
 use mathlib.Core.List.{List·Memᴰ as In}
-use Prim.Native.Nat.{ℕ, _+_, _*_, _-_, _≤_, _<_}
+use Prim.Native.Nat.{ℕ, _+_, _*_, _≤_, _<_}
 use native.Mathlib.Omega.{arith}
 use lib.Dec.{eqb}
 use lib.ListN.{length}
@@ -18,14 +18,14 @@ use Rattle.laws.proofs.Groups.{size, strengthAt}
 use Rattle.laws.proofs.Stored.{groupCount, stored}
 use Rattle.laws.proofs.Tree.{parent-rises, group-rows-length}
 use Rattle.columns.specs.Columns.{cell, store, COLUMNS}
-use Rattle.columns.specs.Laws.{upd-store, length-store, kept-column}
+use Rattle.columns.specs.Laws.{upd-store, length-store, kept-column, kept-entry}
 use Rattle.stored.specs.Rows.{graphIn, IsIndex, ownGroup, parentOf, proper, fits-groups, parent-cases, own-cases, Sized, sized-few}
-use Rattle.listing.specs.Paths.{rising, onward, step-up, in-leads, leads-in}
+use Rattle.counting.specs.Paths.{rising, onward, between, step-up, in-leads, leads-in}
 
 -- what the walk up asks of index and columns: c is the column that counts
 pub record UpGiven (b : List ℕ) (at m count c : ℕ) : Type 0 where
   pub sized : Sized b at m count
-  pub counter : (3 < c) × (c < 16)
+  pub counter : (3 < c) × (c < COLUMNS)
 
 -- one more, if the last round was another
 abbrev pub bump : ℕ → ℕ → ℕ → ℕ
@@ -46,45 +46,37 @@ pub record Left (m c h : ℕ) (w w′ : List ℕ) : Type 0 where
   pub stamp : cell w′ m 3 h ≡ cell w m 3 h
   pub counted : cell w′ m c h ≡ cell w m c h
 
-pub left-none : {m c h : ℕ} {w : List ℕ} → Left m c h w w
+left-none : {m c h : ℕ} {w : List ℕ} → Left m c h w w
 left-none = record { stamp = refl; counted = refl }
 
--- columns other than 3 and c, and the length
-pub record Both (m c : ℕ) (w w′ : List ℕ) : Type 0 where
+-- columns other than 3 and c, entries from count on, and the length
+pub record Both (m count c : ℕ) (w w′ : List ℕ) : Type 0 where
   pub length-is : length w′ ≡ length w
   pub others : (d y : ℕ) → d ≢ 3 → d ≢ c → y < m → cell w′ m d y ≡ cell w m d y
+  pub after : (d y : ℕ) → count ≤ y → y < m → cell w′ m d y ≡ cell w m d y
 
-pub both-none : {m c : ℕ} {w : List ℕ} → Both m c w w
-both-none = record { length-is = refl; others = λ d y n k l. refl }
+pub both-none : {m count c : ℕ} {w : List ℕ} → Both m count c w w
+both-none = record { length-is = refl; others = λ d y n k l. refl; after = λ d y h l. refl }
 
-pub both-then : {m c : ℕ} {w w₁ w₂ : List ℕ} → Both m c w w₁ → Both m c w₁ w₂ → Both m c w w₂
-both-then p q = record { length-is = q .length-is ∙ p .length-is; others = λ d y n k l. q .others d y n k l ∙ p .others d y n k l }
+pub both-then : {m count c : ℕ} {w w₁ w₂ : List ℕ} → Both m count c w w₁ → Both m count c w₁ w₂ → Both m count c w w₂
+both-then p q = record { length-is = q .length-is ∙ p .length-is; others = λ d y n k l. q .others d y n k l ∙ p .others d y n k l; after = λ d y h l. q .after d y h l ∙ p .after d y h l }
 
 -- ---- one group
 
-pub record TouchOne (m count c x r : ℕ) (w w′ : List ℕ) : Type 0 where
-  pub both : Both m c w w′
-  pub here : Touched m c r x w w′
-  pub else : (h : ℕ) → h < count → h ≢ x → Left m c h w w′
+pub record TouchOne (m c x r : ℕ) (w w′ : List ℕ) : Type 0 where
+  pub length-is : length w′ ≡ length w
+  pub stamp : cell w′ m 3 x ≡ r
+  pub counted : cell w′ m c x ≡ cell w m c x + 1
+  pub others : (d y : ℕ) → d ≢ 3 → d ≢ c → y < m → cell w′ m d y ≡ cell w m d y
+  pub else : (d y : ℕ) → y < m → y ≢ x → cell w′ m d y ≡ cell w m d y
 
-pub touch-again : {m count c x r y : ℕ} {w : List ℕ} → y ≡ cell w m 3 x → y ≡ r → TouchOne m count c x r w w
-touch-again {m} {count} {c} {x} {r} {y} {w} q e = record {
-  both = both-none;
-  here = record { stamp = sym q ∙ e; counted = sym (bump-again (cell w m c x) (sym q ∙ e)) };
-  else = λ h l n. left-none;
-}
-
-pub touch-first : {m count c x r y z : ℕ} {w w₁ w₂ : List ℕ} → length w ≡ COLUMNS * m → count ≤ m → x < m → 3 < c → c < 16 → y ≡ cell w m 3 x → y ≢ r → w₁ ≡ store w m 3 x r → z ≡ cell w₁ m c x → w₂ ≡ store w₁ m c x (z + 1) → TouchOne m count c x r w w₂
-touch-first {m} {count} {c} {x} {r} {y} {z} {w} {w₁} {w₂} sz fw l lc hc q n u e v = record {
-  both = record { length-is = ap length v ∙ length-store w₁ m c x (z + 1) ∙ l₁; others = λ d j n3 nc k. cells d j ∙ kept-column w₁ m c d x j (z + 1) (λ s. nc (sym s)) l k ∙ cells₁ d j ∙ kept-column w m 3 d x j r (λ s. n3 (sym s)) l k };
-  here = record {
-    stamp = cells 3 x ∙ kept-column w₁ m c 3 x x (z + 1) (λ s. omega (arith, s, lc)) l l ∙ cells₁ 3 x ∙ upd-store w m 3 x r (omega arith) l sz .here;
-    counted = cells c x ∙ upd-store w₁ m c x (z + 1) hc l (l₁ ∙ sz) .here ∙ ap (λ (a : ℕ). a + 1) (e ∙ cells₁ c x ∙ kept-column w m 3 c x x r (λ s. omega (arith, s, lc)) l l) ∙ sym (bump-first (cell w m c x) (λ s. n (q ∙ s)));
-  };
-  else = λ h k nh. record {
-    stamp = cells 3 h ∙ kept-column w₁ m c 3 x h (z + 1) (λ s. omega (arith, s, lc)) l (omega arith) ∙ cells₁ 3 h ∙ upd-store w m 3 x r (omega arith) l sz .else h (omega arith) nh;
-    counted = cells c h ∙ upd-store w₁ m c x (z + 1) hc l (l₁ ∙ sz) .else h (omega arith) nh ∙ cells₁ c h ∙ kept-column w m 3 c x h r (λ s. omega (arith, s, lc)) l (omega arith);
-  };
+pub touch-one : {m c x r z : ℕ} {w w₁ w₂ : List ℕ} → length w ≡ COLUMNS * m → x < m → 3 < c → c < COLUMNS → w₁ ≡ store w m 3 x r → z ≡ cell w₁ m c x → w₂ ≡ store w₁ m c x (z + 1) → TouchOne m c x r w w₂
+touch-one {m} {c} {x} {r} {z} {w} {w₁} {w₂} sz l lc hc u e v = record {
+  length-is = ap length v ∙ length-store w₁ m c x (z + 1) ∙ l₁;
+  stamp = cells 3 x ∙ kept-column w₁ m c 3 x x (z + 1) (λ s. omega (arith, s, lc)) l l ∙ cells₁ 3 x ∙ upd-store w m 3 x r (omega arith) l sz .here;
+  counted = cells c x ∙ upd-store w₁ m c x (z + 1) hc l (l₁ ∙ sz) .here ∙ ap (λ (a : ℕ). a + 1) (e ∙ cells₁ c x ∙ kept-column w m 3 c x x r (λ s. omega (arith, s, lc)) l l);
+  others = λ d j n3 nc k. cells d j ∙ kept-column w₁ m c d x j (z + 1) (λ s. nc (sym s)) l k ∙ cells₁ d j ∙ kept-column w m 3 d x j r (λ s. n3 (sym s)) l k;
+  else = λ d j k n. cells d j ∙ kept w₁ c (z + 1) d j k n (same-or-not d c) ∙ cells₁ d j ∙ kept w 3 r d j k n (same-or-not d 3);
 }
   where
     l₁ : length w₁ ≡ length w
@@ -96,16 +88,20 @@ touch-first {m} {count} {c} {x} {r} {y} {z} {w} {w₁} {w₂} sz fw l lc hc q n 
     cells₁ : (d j : ℕ) → cell w₁ m d j ≡ cell (store w m 3 x r) m d j
     cells₁ d j = ap (λ (a : List ℕ). cell a m d j) u
 
+    kept : (a : List ℕ) (f y d j : ℕ) → j < m → j ≢ x → (d ≡ f) ⊎ (d ≢ f) → cell (store a m f x y) m d j ≡ cell a m d j
+    kept a f y d j k n (inl q) = rw q (kept-entry a m f x j y n)
+    kept a f y d j k n (inr q) = kept-column a m f d x j y (λ s. q (sym s)) l k
+
 -- the counter before it moves has room
-pub first-small : (w : List ℕ) (m c x r : ℕ) {z : ℕ} {w₁ : List ℕ} → x < m → 3 < c → w₁ ≡ store w m 3 x r → z ≡ cell w₁ m c x → cell w m c x < 65535 → z + 1 < 4294967296
-first-small w m c x r {z} {w₁} l lc u e h =
+pub touch-small : (w : List ℕ) (m c x r : ℕ) {z : ℕ} {w₁ : List ℕ} → x < m → 3 < c → w₁ ≡ store w m 3 x r → z ≡ cell w₁ m c x → cell w m c x < 65535 → z + 1 < 4294967296
+touch-small w m c x r {z} {w₁} l lc u e h =
     let k = ap (λ (a : List ℕ). cell a m c x) u ∙ kept-column w m 3 c x x r (λ s. omega (arith, s, lc)) l l in
     omega (arith, e, k, h)
 
 -- ---- all groups on the way up from g
 
 pub record UpState (b : List ℕ) (m count c g r x : ℕ) (w₀ w : List ℕ) : Type 0 where
-  pub both : Both m c w₀ w
+  pub both : Both m count c w₀ w
   pub done : (h : ℕ) → h < count → Leads (index (graphIn b)) g h → h < x → Touched m c r h w₀ w
   pub todo : (h : ℕ) → h < count → Leads (index (graphIn b)) g h → x ≤ h → Left m c h w₀ w
   pub off : (h : ℕ) → h < count → ¬ (Leads (index (graphIn b)) g h) → Left m c h w₀ w
@@ -142,38 +138,38 @@ module _ {b : List ℕ} {at m count c g r x : ℕ} {w₀ w : List ℕ} (A : UpGi
   ends-in (arrived l) = omega (arith, l, group-rows-length (graphIn b) (proper I) (fits-groups I))
   ends-in (Rattle.truss.specs.Stored.up l v) = ends-in v
 
+  lx : x < groupCount (graphIn b)
+  lx = ends-in on-path
+
   pub up-in : x < count
-  up-in = omega (arith, ends-in on-path, A .sized .groups)
+  up-in = omega (arith, lx, A .sized .groups)
 
   -- its counter is as it was
   pub up-count : cell w m c x ≡ cell w₀ m c x
   up-count = S .todo x up-in on-path (omega arith) .counted
 
-  pub up-falls : {p : ℕ} → p ≡ parentOf (graphIn b) x → count - p < count - x
-  up-falls {p} q = go (parent-cases I x (omega (arith, up-in, A .sized .groups)))
+  -- numbers rise on the way up
+  pub up-rises : {p : ℕ} → p ≡ parentOf (graphIn b) x → x < p
+  up-rises {p} q = go (parent-cases I x lx)
     where
-      go : (parentOf (graphIn b) x < groupCount (graphIn b)) ⊎ (parentOf (graphIn b) x ≡ noGroup) → count - p < count - x
-      go (inl l) = omega (arith, l, q, up-in, A .sized .groups, parent-rises (graphIn b) (proper I) (fits-groups I) x (omega (arith, up-in, A .sized .groups)) l)
+      go : (parentOf (graphIn b) x < groupCount (graphIn b)) ⊎ (parentOf (graphIn b) x ≡ noGroup) → x < p
+      go (inl l) = omega (arith, q, parent-rises (graphIn b) (proper I) (fits-groups I) x lx l)
       go (inr e) = omega (arith, e, q, up-in, sized-few (A .sized) .0, sized-few (A .sized) .1)
 
-  pub up-more : {p : ℕ} {w′ : List ℕ} → p ≡ parentOf (graphIn b) x → TouchOne m count c x r w w′ → UpState b m count c g r p w₀ w′
-  up-more {p} {w′} q T = record {
-    both = both-then (S .both) (T .both);
+  pub up-more : {p y : ℕ} {w′ : List ℕ} → y ≡ cell w m 3 x → y ≢ r → p ≡ parentOf (graphIn b) x → TouchOne m c x r w w′ → UpState b m count c g r p w₀ w′
+  up-more {p} {y} {w′} qy ny q T = record {
+    both = both-then (S .both) (record { length-is = T .length-is; others = T .others; after = λ d j k l. T .else d j l (λ e. omega (arith, e, k, up-in)) });
     done = λ h l v k. done h l v k (same-or-not h x);
-    todo = λ h l v k. left-then (T .else h l (λ e. omega (arith, e, k, rises))) (S .todo h l v (omega (arith, k, rises)));
-    off = λ h l nv. left-then (T .else h l (λ e. nv (subst (λ (y : ℕ). Leads (index (graphIn b)) g y) (sym e) on-path))) (S .off h l nv);
+    todo = λ h l v k. left-then (else h l (λ e. omega (arith, e, k, rises))) (S .todo h l v (omega (arith, k, rises)));
+    off = λ h l nv. left-then (else h l (λ e. nv (subst (λ (y : ℕ). Leads (index (graphIn b)) g y) (sym e) on-path))) (S .off h l nv);
     place = place (parent-cases I x lx);
   }
     where
-      lx : x < groupCount (graphIn b)
-      lx = omega (arith, up-in, A .sized .groups)
-
       rises : x < p
-      rises = go (parent-cases I x lx)
-        where
-          go : (parentOf (graphIn b) x < groupCount (graphIn b)) ⊎ (parentOf (graphIn b) x ≡ noGroup) → x < p
-          go (inl l) = omega (arith, q, parent-rises (graphIn b) (proper I) (fits-groups I) x lx l)
-          go (inr e) = omega (arith, e, q, up-in, sized-few (A .sized) .0, sized-few (A .sized) .1)
+      rises = up-rises q
+
+      else : (h : ℕ) → h < count → h ≢ x → Left m c h w w′
+      else h l n = let k : h < m = omega (arith, l, sized-few (A .sized) .0) in record { stamp = T .else 3 h k n; counted = T .else c h k n }
 
       left-then : {h : ℕ} → Left m c h w w′ → Left m c h w₀ w → Left m c h w₀ w′
       left-then a d = record { stamp = a .stamp ∙ d .stamp; counted = a .counted ∙ d .counted }
@@ -181,11 +177,11 @@ module _ {b : List ℕ} {at m count c g r x : ℕ} {w₀ w : List ℕ} (A : UpGi
       done : (h : ℕ) → h < count → Leads (index (graphIn b)) g h → h < p → (h ≡ x) ⊎ (h ≢ x) → Touched m c r h w₀ w′
       done h l v k (inl e) =
           let t = S .todo x up-in on-path (omega arith) in
-          rw e (record { stamp = T .here .stamp; counted = T .here .counted ∙ ap₂ (λ (a d : ℕ). bump a r d) (t .stamp) (t .counted) })
+          rw e (record { stamp = T .stamp; counted = T .counted ∙ ap (λ (a : ℕ). a + 1) (t .counted) ∙ sym (bump-first (cell w₀ m c x) (λ s. ny (qy ∙ t .stamp ∙ s))) })
       done h l v k (inr ne) = by (less-or-not h x)
         where
           by : (h < x) ⊎ (x ≤ h) → Touched m c r h w₀ w′
-          by (inl s) = let t = S .done h l v s in let a = T .else h l ne in record { stamp = a .stamp ∙ t .stamp; counted = a .counted ∙ t .counted }
+          by (inl s) = let t = S .done h l v s in let a = else h l ne in record { stamp = a .stamp ∙ t .stamp; counted = a .counted ∙ t .counted }
           by (inr s) =
               let on = onward I on-path v (omega arith) in
               absurd (omega (arith, k, q, rising I on))
@@ -194,18 +190,39 @@ module _ {b : List ℕ} {at m count c g r x : ℕ} {w₀ w : List ℕ} (A : UpGi
       place (inl l) = inr (subst (λ (y : ℕ). Leads (index (graphIn b)) g y) (sym q) (step-up I on-path l))
       place (inr e) = inl (q ∙ e)
 
+-- what the round touched, it touched with all that is above
+abbrev pub Closed : List ℕ → ℕ → ℕ → ℕ → List ℕ → Type 0
+Closed b m count r w = (h k : ℕ) → h < count → k < count → Leads (index (graphIn b)) h k → cell w m 3 h ≡ r → cell w m 3 k ≡ r
+
 pub record UpGives (b : List ℕ) (m count c g r : ℕ) (w w′ : List ℕ) : Type 0 where
-  pub both : Both m c w w′
+  pub both : Both m count c w w′
   pub on : (h : ℕ) → h < count → Leads (index (graphIn b)) g h → Touched m c r h w w′
   pub off : (h : ℕ) → h < count → ¬ (Leads (index (graphIn b)) g h) → Left m c h w w′
 
 pub up-done : {b : List ℕ} {at m count c g r x : ℕ} {w w′ : List ℕ} → UpGiven b at m count c → UpState b m count c g r x w w′ → x ≡ noGroup → UpGives b m count c g r w w′
 up-done A S e = record { both = S .both; on = λ h l v. S .done h l v (omega (arith, e, l, sized-few (A .sized) .0, sized-few (A .sized) .1)); off = S .off }
 
+-- so the way up ends at the first group that the round touched already
+pub up-stop : {b : List ℕ} {at m count c g r x y : ℕ} {w₀ w : List ℕ} → UpGiven b at m count c → UpState b m count c g r x w₀ w → x ≢ noGroup → Closed b m count r w₀ → y ≡ cell w m 3 x → y ≡ r → UpGives b m count c g r w₀ w
+up-stop {b} {at} {m} {count} {c} {g} {r} {x} {y} {w₀} {w} A S n closed q e = record { both = S .both; on = λ h l v. go h l v (less-or-not h x); off = S .off }
+  where
+    I : IsIndex b
+    I = A .sized .groups-at .is-index
+
+    stamped : cell w₀ m 3 x ≡ r
+    stamped = sym (S .todo x (up-in A S n) (on-path A S n) (omega arith) .stamp) ∙ sym q ∙ e
+
+    go : (h : ℕ) → h < count → Leads (index (graphIn b)) g h → (h < x) ⊎ (x ≤ h) → Touched m c r h w₀ w
+    go h l v (inl k) = S .done h l v k
+    go h l v (inr k) =
+        let above : cell w₀ m 3 h ≡ r = closed x h (up-in A S n) l (between I (on-path A S n) v k) stamped in
+        let t = S .todo h l v k in
+        record { stamp = t .stamp ∙ above; counted = t .counted ∙ sym (bump-again (cell w₀ m c h) above) }
+
 -- ---- all groups that hold a link
 
 pub record LinkGives (b : List ℕ) (m count c i r : ℕ) (w w′ : List ℕ) : Type 0 where
-  pub both : Both m c w w′
+  pub both : Both m count c w w′
   pub on : (h : ℕ) → h < count → In i (stored (graphIn b) h .members) → Touched m c r h w w′
   pub off : (h : ℕ) → h < count → ¬ (In i (stored (graphIn b) h .members)) → Left m c h w w′
 
