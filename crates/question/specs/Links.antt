@@ -42,7 +42,8 @@ use Rattle.stored.specs.Find.{found-link}
 use Rattle.stored.specs.Climb.{same-group, group-some, group-same}
 use Rattle.holding.specs.Marks.{Marks}
 use Rattle.question.specs.Replies.{Answers, answer-two}
-use Rattle.question.specs.Lists.{marked, marked-are}
+use Rattle.ordering.specs.Rows.{marked}
+use Rattle.question.specs.Lists.{marked-are}
 
 -- a reply that leaves the buffer, whatever it holds
 abbrev pub NumberGives : Graph → Rattle.truss.specs.Question.Question → CReply → Type 0

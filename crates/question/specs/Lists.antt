@@ -1,11 +1,9 @@
--- The numbers that a column marks, counted and written. Assumes nothing.
+-- The numbers that a column marks, counted and written; and the first numbers of a row, written. Assumes nothing.
 use mathlib.Core.Path.{_≡_, refl, sym, ap, ap₂, _∙_}
 use mathlib.Core.Logic.{_⊎_, inl, inr, _≢_}
 use mathlib.Core.Bool.{Bool, true, false, cond, not}
 use mathlib.Core.List.{List, [], _∷_, _++_, append-nil}
 use Prim.Native.Nat.{ℕ, zero, suc, _+_, _*_, _-_, _≤_, _<_}
-use native.Mathlib.Nat.{zero-add}
-use native.Mathlib.Numerals.{add-one}
 use native.Mathlib.Omega.{arith}
 use lib.Dec.{eqb}
 use lib.ListN.{length, length-append}
@@ -17,58 +15,24 @@ use Rattle.truss.specs.Question.{numbers}
 use Rattle.truss.specs.Call.{answerBytes, answerValue, answerSecond}
 use Rattle.laws.proofs.Numbers.{same-or-not}
 use Rattle.laws.proofs.Lists.{bool-same}
-use Rattle.laws.proofs.Members.{range-last, range-in}
+use Rattle.laws.proofs.Members.{range-in}
 use Rattle.laws.proofs.Sets.{filter-same}
+use Rattle.laws.proofs.Answers.{fields-length, answer-length}
 use Rattle.columns.specs.Columns.{cell, COLUMNS}
 use Rattle.wire.specs.Writing.{written, written-none, written-length, written-then}
 use Rattle.index.specs.declared.Reply.{Reply as CReply}
 use Rattle.index.specs.Build.{Replies}
 use Rattle.holding.specs.Marks.{Marks}
+use Rattle.ordering.specs.Rows.{marksIt, marked, marked-more, marked-same, marked-none, front, front-more, front-length}
 use Rattle.question.specs.Replies.{shown-no-room, shown-wrote}
 use Rattle.question.specs.Replies.{Lists as ListGives}
 
--- column 0 marks i
-abbrev pub marksIt : List ℕ → ℕ → ℕ → Bool
-marksIt w m i = not (eqb (cell w m 0 i) 0)
-
--- the numbers below size that it marks, rising
-unfoldable pub marked : List ℕ → ℕ → ℕ → List ℕ
-unfolding filter range
-marked w m size = filter (marksIt w m) (range 0 size)
-
--- one number more
-filter-last : (p : ℕ → Bool) (xs : List ℕ) (x : ℕ) → filter p (xs ++ (x ∷ [])) ≡ filter p xs ++ cond (p x) (x ∷ []) []
-unfolding filter
-filter-last p [] x = go (p x)
-  where
-    go : (b : Bool) → cond b (x ∷ []) [] ≡ cond b (x ∷ []) []
-    go b = refl
-filter-last p (y ∷ ys) x = go (p y) (filter-last p ys x)
-  where
-    go : (b : Bool) → filter p (ys ++ (x ∷ [])) ≡ filter p ys ++ cond (p x) (x ∷ []) [] → cond b (y ∷ filter p (ys ++ (x ∷ []))) (filter p (ys ++ (x ∷ []))) ≡ cond b (y ∷ filter p ys) (filter p ys) ++ cond (p x) (x ∷ []) []
-    go true ih = ap {B = List ℕ} (λ r. y ∷ r) ih
-    go false ih = ih
-
 module _ (w : List ℕ) (m i : ℕ) where
-  more : marked w m (i + 1) ≡ marked w m i ++ cond (marksIt w m i) (i ∷ []) []
-  unfolding marked
-  more = rw add-one (ap (filter (marksIt w m)) (range-last 0 i ∙ ap (λ (x : ℕ). range 0 i ++ (x ∷ [])) (zero-add i)) ∙ filter-last (marksIt w m) (range 0 i) i)
-
-  pub marked-more : cell w m 0 i ≢ 0 → marked w m (i + 1) ≡ marked w m i ++ (i ∷ [])
-  marked-more n = more ∙ rw (ne-eqb (cell w m 0 i) 0 n) refl
-
-  pub marked-same : cell w m 0 i ≡ 0 → marked w m (i + 1) ≡ marked w m i
-  marked-same z = more ∙ rw (eq-eqb (cell w m 0 i) 0 z) (append-nil (marked w m i))
-
   pub count-more : {x : ℕ} → x ≡ cell w m 0 i → x ≢ 0 → length (marked w m (i + 1)) ≡ length (marked w m i) + 1
-  count-more q n = ap length (marked-more (λ z. n (q ∙ z))) ∙ length-append (marked w m i) (i ∷ [])
+  count-more q n = ap length (marked-more w m i (λ z. n (q ∙ z))) ∙ length-append (marked w m i) (i ∷ [])
 
   pub count-same : {x : ℕ} → x ≡ cell w m 0 i → x ≡ 0 → length (marked w m (i + 1)) ≡ length (marked w m i)
-  count-same q z = ap length (marked-same (sym q ∙ z))
-
-pub marked-none : (w : List ℕ) (m : ℕ) → marked w m 0 ≡ []
-unfolding marked filter range
-marked-none w m = refl
+  count-same q z = ap length (marked-same w m i (sym q ∙ z))
 
 pub marked-few : (w : List ℕ) (m i : ℕ) → length (marked w m i) ≤ i
 marked-few w m zero = omega (arith, ap length (marked-none w m))
@@ -89,11 +53,6 @@ unfolding concatMap
 bytes-snoc [] x = append-nil (field x)
 bytes-snoc (y ∷ ys) x = ap (λ (r : List ℕ). field y ++ r) (bytes-snoc ys x) ∙ sym (mathlib.Core.List.append-assoc (field y) (concatMap field ys) (field x))
 
-pub bytes-length : (xs : List ℕ) → length (concatMap field xs) ≡ 2 * length xs
-unfolding concatMap
-bytes-length [] = refl
-bytes-length (x ∷ xs) = let ih = bytes-length xs in omega (arith, ih)
-
 module _ (w : List ℕ) (m i : ℕ) where
   pub bytes-more : {x : ℕ} → x ≡ cell w m 0 i → x ≢ 0 → concatMap field (marked w m (i + 1)) ≡ concatMap field (marked w m i) ++ field i
   bytes-more q n = ap (concatMap field) (marked-more w m i (λ z. n (q ∙ z))) ∙ bytes-snoc (marked w m i) i
@@ -105,10 +64,6 @@ module _ (w : List ℕ) (m i : ℕ) where
 pub answer-bytes : (xs : List ℕ) → answerBytes (numbers xs) ≡ field (length xs) ++ concatMap field xs
 unfolding answerBytes
 answer-bytes xs = refl
-
-pub answer-length : (xs : List ℕ) → length (answerBytes (numbers xs)) ≡ 2 + 2 * length xs
-unfolding answerBytes
-answer-length xs = omega (arith, bytes-length xs)
 
 module _ (xs out : List ℕ) where
   pub list-no-room : {r : CReply} → length out < 2 + 2 * length xs → Replies r 12 0 → ListGives xs out r out
@@ -183,7 +138,7 @@ module _ {w : List ℕ} {m size i at : ℕ} {out₀ out : List ℕ} (room : 2 * 
   fits = let e : i + (size - i) ≡ size = omega arith in omega (arith, room, marked-rises w m i (size - i), ap (λ (x : ℕ). length (marked w m x)) e)
 
   pub out-length : length out ≡ length out₀
-  out-length = ap length (S .bytes) ∙ written-length out₀ 0 (concatMap field (marked w m i)) (omega (arith, fits, bytes-length (marked w m i)))
+  out-length = ap length (S .bytes) ∙ written-length out₀ 0 (concatMap field (marked w m i)) (omega (arith, fits, fields-length (marked w m i)))
 
   pub put-room : {x : ℕ} → x ≡ cell w m 0 i → x ≢ 0 → at + 2 ≤ length out
   put-room q n =
@@ -198,11 +153,34 @@ module _ {w : List ℕ} {m size i at : ℕ} {out₀ out : List ℕ} (room : 2 * 
       go (inr n) =
           let p = P .some n in
           let xs : List ℕ = concatMap field (marked w m i) in
-          let e : at ≡ 0 + length xs = omega (arith, S .place, bytes-length (marked w m i)) in
+          let e : at ≡ 0 + length xs = omega (arith, S .place, fields-length (marked w m i)) in
           record {
             place = omega (arith, p .0, S .place, count-more w m i q n);
-            bytes = p .1 ∙ ap₂ (λ (o : List ℕ) (a : ℕ). written o a (field i)) (S .bytes) e ∙ written-then out₀ 0 xs (omega (arith, fits, bytes-length (marked w m i))) (field i) ∙ ap (written out₀ 0) (sym (bytes-more w m i q n));
+            bytes = p .1 ∙ ap₂ (λ (o : List ℕ) (a : ℕ). written o a (field i)) (S .bytes) e ∙ written-then out₀ 0 xs (omega (arith, fits, fields-length (marked w m i))) (field i) ∙ ap (written out₀ 0) (sym (bytes-more w m i q n));
           }
 
 pub write-done : {w : List ℕ} {m size i at : ℕ} {out₀ out : List ℕ} → i ≡ size → WriteState w m i at out₀ out → out ≡ written out₀ 0 (concatMap field (marked w m size))
 write-done {w} {m} {size} {i} {at} {out₀} q S = S .bytes ∙ ap (λ (x : ℕ). written out₀ 0 (concatMap field (marked w m x))) q
+
+-- ---- a row
+
+-- what writing asks of the work space
+pub record RowGiven (m r : ℕ) (w : List ℕ) : Type 0 where
+  pub size-is : length w ≡ COLUMNS * m
+  pub part : r ≤ m
+  pub few : m ≤ maxLinks
+
+-- the bytes of the first r numbers of column 3
+abbrev pub rowBytes : List ℕ → ℕ → ℕ → List ℕ
+rowBytes w m r = concatMap field (front (cell w m 3) r)
+
+module _ (w : List ℕ) (m : ℕ) where
+  pub row-none : (out : List ℕ) → out ≡ written out 0 (rowBytes w m 0)
+  unfolding front range concatMap
+  row-none out = written-none out 0
+
+  pub row-more : (i : ℕ) {g : ℕ} → g ≡ cell w m 3 i → rowBytes w m i ++ field g ≡ rowBytes w m (i + 1)
+  row-more i {g} q = ap (λ (x : ℕ). rowBytes w m i ++ field x) q ∙ sym (ap (concatMap field) (front-more (cell w m 3) i) ∙ bytes-snoc (front (cell w m 3) i) (cell w m 3 i))
+
+  pub row-length : (i : ℕ) → length (rowBytes w m i) ≡ 2 * i
+  row-length i = fields-length (front (cell w m 3) i) ∙ ap (λ (x : ℕ). 2 * x) (front-length (cell w m 3) i)

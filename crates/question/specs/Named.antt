@@ -4,23 +4,23 @@ use mathlib.Core.Logic.{_⊎_, inl, inr, _≢_}
 use mathlib.Core.Bool.{Bool, true, false, cond, not, _&&_, _||_}
 use mathlib.Core.List.{List}
 use mathlib.Core.List.{List·Memᴰ as In}
-use Prim.Native.Nat.{ℕ, _+_, _*_, _/_, _%_, _-_, _≤_, _<_}
+use Prim.Native.Nat.{ℕ, _+_, _*_, _/_, _%_, _≤_, _<_}
 use native.Mathlib.Omega.{arith}
-use lib.Dec.{eqb, ltb, leb}
+use lib.Dec.{ltb, leb}
 use lib.ListN.{length, getD}
-use borrow.Author.Tests.{le-leb, lt-leb, leb-true, lt-ltb, le-ltb, eq-eqb, ne-eqb}
+use borrow.Author.Tests.{le-leb, lt-leb, lt-ltb, le-ltb}
 use Rattle.truss.specs.Limits.{minLevel, noGroup, maxNamed}
-use Rattle.truss.specs.Lists.{any, all}
+use Rattle.truss.specs.Lists.{all}
 use Rattle.truss.specs.Graph.{Graph}
 use Rattle.truss.specs.Group.{Group, groups}
 use Rattle.truss.specs.Refusal.{Checked, passed, refuse, refuseIf}
 use Rattle.truss.specs.Record.{fieldAt}
-use Rattle.truss.specs.Question.{Answer, numbers, answer, outside, accountsIn, badCount, badLevel, holdsAll, isGroupAt, numbersOf, groupsHolding, strongestHolding, allHolding, ask-groups-at, ask-strongest, ask-all}
-use Rattle.laws.proofs.Lists.{test, true-not-false, both, and-left, and-right}
+use Rattle.truss.specs.Question.{Answer, numbers, answer, outside, accountsIn, badCount, badLevel, holdsAll, isGroupAt, numbersOf, groupsHolding, strongestHolding, allHolding, listed, ask-groups-at, ask-strongest, ask-all}
+use Rattle.laws.proofs.Lists.{test, both, and-left, and-right}
 use Rattle.laws.proofs.Numbers.{same-or-not, less-or-not}
-use Rattle.laws.proofs.Members.{any-in, in-any, in-getD, getD-in}
+use Rattle.laws.proofs.Members.{in-any, in-getD, getD-in}
 use Rattle.laws.proofs.Stored.{groupCount, stored, noSuchGroup}
-use Rattle.laws.proofs.Answers.{D-only, D-all, numbers-in, in-numbers}
+use Rattle.laws.proofs.Answers.{well-counted, counted-well, ill-counted, all-inside, inside-all, numbers-in, in-numbers, D-only, D-all}
 use Rattle.columns.specs.Columns.{cell, store, COLUMNS}
 use Rattle.columns.specs.Laws.{upd-store, length-store}
 use Rattle.wire.specs.Writing.{Tells, tells-yes, tells-no}
@@ -28,7 +28,8 @@ use Rattle.stored.specs.Rows.{graphIn, parentOf, parent-cases, Sized, sized-few
 use Rattle.holding.specs.Marks.{Marks, marks-as, marks-clear}
 use Rattle.holding.specs.Ranks.{Before, in-before, before-in}
 use Rattle.holding.specs.Turns.{Names, HoldGives}
-use Rattle.question.specs.Lists.{marked, marked-are}
+use Rattle.ordering.specs.Rows.{marked}
+use Rattle.question.specs.Lists.{marked-are}
 use Rattle.question.specs.Levels.{at-top, at-below, too-weak, not-top}
 
 -- ---- checks 8 and 9
@@ -39,16 +40,16 @@ namesFault G named = cond (badCount named) 8 (cond (outside G (accountsIn named)
 
 module _ (named : List ℕ) where
   pub none-named : length named ≡ 0 → badCount named ≡ true
-  none-named z = rw (eq-eqb (length named) 0 z) refl
+  none-named z = ill-counted named (λ (c, some, few, q). omega (arith, z, some, q))
 
-  pub many-named : length named ≢ 0 → maxNamed * 2 < length named → badCount named ≡ true
-  many-named n l = rw (ne-eqb (length named) 0 n, lt-ltb (maxNamed * 2) (length named) l) refl
+  pub many-named : maxNamed * 2 < length named → badCount named ≡ true
+  many-named l = ill-counted named (λ (c, some, few, q). omega (arith, l, few, q))
 
-  pub odd-named : length named ≢ 0 → length named ≤ maxNamed * 2 → length named % 2 ≡ 1 → badCount named ≡ true
-  odd-named n l o = rw (ne-eqb (length named) 0 n, le-ltb (maxNamed * 2) (length named) l, eq-eqb (length named % 2) 1 o) refl
+  pub odd-named : length named % 2 ≡ 1 → badCount named ≡ true
+  odd-named o = ill-counted named (λ (c, some, few, q). omega (arith, o, q))
 
   pub good-named : length named ≢ 0 → length named ≤ maxNamed * 2 → length named % 2 ≢ 1 → badCount named ≡ false
-  good-named n l o = rw (ne-eqb (length named) 0 n, le-ltb (maxNamed * 2) (length named) l, ne-eqb (length named % 2) 1 o) refl
+  good-named n l o = well-counted named (length named / 2, omega (arith, n, o), omega (arith, l), omega (arith, o))
 
   pub half-named : length named % 2 ≢ 1 → length named ≡ 2 * (length named / 2)
   half-named o = omega (arith, o)
@@ -89,20 +90,7 @@ module _ (G : Graph) {n : ℕ} (accounts : G .n ≡ n) (named : List ℕ) (k : �
       go (t, lt, q) = omega (arith, q, B t (omega (arith, lt, l)))
 
   pub none-outside : {j : ℕ} → k ≤ j → FirstBelow named n j → outside G (accountsIn named) ≡ false
-  unfolding outside
-  none-outside {j} l B = go (test (any (leb (G .n)) (accountsIn named)))
-    where
-      go : (any (leb (G .n)) (accountsIn named) ≡ true) ⊎ (any (leb (G .n)) (accountsIn named) ≡ false) → any (leb (G .n)) (accountsIn named) ≡ false
-      go (inl t) = let r = any-in (leb (G .n)) (accountsIn named) t in absurd (omega (arith, leb-true (G .n) (r .0) (r .2), inside-in l B (r .0) (r .1), accounts))
-      go (inr f) = f
-
-  pub all-inside : outside G (accountsIn named) ≡ false → (v : ℕ) → In v (accountsIn named) → v < n
-  unfolding outside
-  all-inside f v m = go (less-or-not v n)
-    where
-      go : (v < n) ⊎ (n ≤ v) → v < n
-      go (inl l) = l
-      go (inr l) = absurd (true-not-false (in-any (leb (G .n)) (accountsIn named) m (le-leb (G .n) v (omega (arith, accounts, l)))) f)
+  none-outside l B = all-inside G (accountsIn named) (λ v m. omega (arith, inside-in l B v m, accounts))
 
 -- what no fault means
 pub record GoodNames (G : Graph) (n k : ℕ) (named : List ℕ) : Type 0 where
@@ -112,14 +100,7 @@ pub record GoodNames (G : Graph) (n k : ℕ) (named : List ℕ) : Type 0 where
   pub inside : outside G (accountsIn named) ≡ false
 
 count-good : (named : List ℕ) → badCount named ≡ false → (length named ≡ 2 * (length named / 2)) × (0 < length named / 2) × (length named / 2 ≤ maxNamed)
-count-good named f = go (same-or-not (length named) 0) (less-or-not (maxNamed * 2) (length named)) (same-or-not (length named % 2) 1)
-  where
-    go : (length named ≡ 0) ⊎ (length named ≢ 0) → (maxNamed * 2 < length named) ⊎ (length named ≤ maxNamed * 2) → (length named % 2 ≡ 1) ⊎ (length named % 2 ≢ 1)
-        → (length named ≡ 2 * (length named / 2)) × (0 < length named / 2) × (length named / 2 ≤ maxNamed)
-    go (inl z) y x = absurd (true-not-false (none-named named z) f)
-    go (inr n) (inl l) x = absurd (true-not-false (many-named named n l) f)
-    go (inr n) (inr l) (inl o) = absurd (true-not-false (odd-named named n l o) f)
-    go (inr n) (inr l) (inr o) = (omega (arith, o), omega (arith, n, o), omega (arith, l))
+count-good named f = let (c, some, few, q) = counted-well named f in (omega (arith, q), omega (arith, some, q), omega (arith, few, q))
 
 module _ (G : Graph) {n : ℕ} (accounts : G .n ≡ n) (named : List ℕ) {r : ℕ} (q : r ≡ namesFault G named) where
   pub good-names : r ≡ 0 → GoodNames G n (length named / 2) named
@@ -130,7 +111,7 @@ module _ (G : Graph) {n : ℕ} (accounts : G .n ≡ n) (named : List ℕ) {r : �
       go (inr f) (inl t) = absurd (omega (arith, q, z, fault-9 named G f t))
       go (inr f) (inr g) =
           let c = count-good named f in
-          record { names = record { even = c .0; few-names = c .2; below = all-inside G accounts named (length named / 2) (c .0) g }; some = c .1; good-count = f; inside = g }
+          record { names = record { even = c .0; few-names = c .2; below = λ v m. omega (arith, inside-all G (accountsIn named) g v m, accounts) }; some = c .1; good-count = f; inside = g }
 
   faulty : {A : Type 0} (x : Checked A) → r ≢ 0 → refuseIf (badCount named) 8 0 (refuseIf (outside G (accountsIn named)) 9 0 x) ≡ refuse r 0
   faulty {A} x n = go (test (badCount named)) (test (outside G (accountsIn named)))
@@ -158,17 +139,17 @@ module _ {G : Graph} {n k : ℕ} {named : List ℕ} (N : GoodNames G n k named) 
   unfolding answer
   C-level l t = rw (N .good-count, N .inside, t) refl
 
-  pub C-is : (l : ℕ) {xs : List ℕ} → badLevel l ≡ false → xs ≡ groupsHolding G l (accountsIn named) → answer G (ask-groups-at l named) ≡ passed (numbers xs)
+  pub C-is : (l : ℕ) {xs : List ℕ} → badLevel l ≡ false → xs ≡ groupsHolding G l (accountsIn named) → answer G (ask-groups-at l named) ≡ passed (numbers (listed G xs))
   unfolding answer
-  C-is l f q = rw (N .good-count, N .inside, f) (ap {B = Checked Answer} (λ (y : List ℕ). passed (numbers y)) (sym q))
+  C-is l f q = rw (N .good-count, N .inside, f) (ap {B = Checked Answer} (λ (y : List ℕ). passed (numbers (listed G y))) (sym q))
 
-  pub D-is : {xs : List ℕ} → xs ≡ strongestHolding G (accountsIn named) → answer G (ask-strongest named) ≡ passed (numbers xs)
+  pub D-is : {xs : List ℕ} → xs ≡ strongestHolding G (accountsIn named) → answer G (ask-strongest named) ≡ passed (numbers (listed G xs))
   unfolding answer
-  D-is q = rw (N .good-count, N .inside) (ap {B = Checked Answer} (λ (y : List ℕ). passed (numbers y)) (sym q))
+  D-is q = rw (N .good-count, N .inside) (ap {B = Checked Answer} (λ (y : List ℕ). passed (numbers (listed G y))) (sym q))
 
-  pub E-answer : {xs : List ℕ} → xs ≡ allHolding G (accountsIn named) → answer G (ask-all named) ≡ passed (numbers xs)
+  pub E-answer : {xs : List ℕ} → xs ≡ allHolding G (accountsIn named) → answer G (ask-all named) ≡ passed (numbers (listed G xs))
   unfolding answer
-  E-answer q = rw (N .good-count, N .inside) (ap {B = Checked Answer} (λ (y : List ℕ). passed (numbers y)) (sym q))
+  E-answer q = rw (N .good-count, N .inside) (ap {B = Checked Answer} (λ (y : List ℕ). passed (numbers (listed G y))) (sym q))
 
 -- ---- E
 

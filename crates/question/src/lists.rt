@@ -1,4 +1,4 @@
-// The answer of C to F: the numbers that column 0 marks, after their count.
+// The answer of C to F: a count and that many numbers. F's are those that column 0 marks, rising; those of C, D and E stand in a row.
 ghost use mathlib.Core.Path.{_≡_};
 ghost use mathlib.Core.Logic.{_≢_};
 ghost use mathlib.Core.Bool.{cond};
@@ -10,10 +10,13 @@ ghost use Rattle.truss.specs.Record.{field};
 ghost use Rattle.wire.specs.Wire.{placeBound};
 ghost use Rattle.wire.specs.Writing.{written};
 ghost use Rattle.question.specs.Replies.{Lists};
-ghost use Rattle.question.specs.Lists.{ColumnGiven, PutGives, marked};
+ghost use Rattle.columns.specs.Columns.{cell};
+ghost use Rattle.ordering.specs.Rows.{front, marked};
+ghost use Rattle.question.specs.Lists.{ColumnGiven, PutGives, RowGiven, rowBytes};
 use columns::get;
 use index::Reply;
 use index::answered;
+use sorting::ROW;
 use wire::field_record;
 use wire::paste;
 
@@ -69,7 +72,7 @@ fn write_marks(out: &mut [u8], w: &[u32], m: usize, size: usize)
     }
 }
 
-// The whole answer, or 12.
+// The whole answer of numbers that are marked, or 12.
 pub fn give(out: &mut [u8], w: &[u32], m: usize, size: usize) -> Reply
     requires { ⌜ ColumnGiven m size (now w) ⌝ }
     ensures { λ r. ⌜ Lists (marked (now (w .entry)) m size) (now (out .entry)) r (now (out .exit)) ⌝ }
@@ -82,5 +85,34 @@ pub fn give(out: &mut [u8], w: &[u32], m: usize, size: usize) -> Reply
     let rec = field_record(c);
     paste(out, &rec);
     write_marks(&mut out[2..], w, m, size);
+    answered(0, len as u32)
+}
+
+// The first r numbers of the row, at the front of what is lent.
+fn write_row(out: &mut [u8], w: &[u32], m: usize, r: usize)
+    requires { ⌜ RowGiven m r (now w) ⌝ }
+    requires { ⌜ 2 * r ≤ length (now out) ⌝ }
+    ensures { λ _. ⌜ now (out .exit) ≡ written (now (out .entry)) 0 (rowBytes (now (w .entry)) m r) ⌝ }
+{
+    let mut i: usize = 0;
+    while i < r {
+        let rec = field_record(get(w, m, ROW, i));
+        paste(&mut out[2 * i..], &rec);
+        i += 1;
+    }
+}
+
+// The whole answer of the first r numbers of the row, or 12.
+pub fn give_row(out: &mut [u8], w: &[u32], m: usize, r: usize) -> Reply
+    requires { ⌜ RowGiven m r (now w) ⌝ }
+    ensures { λ x. ⌜ Lists (front (cell (now (w .entry)) m 3) r) (now (out .entry)) x (now (out .exit)) ⌝ }
+{
+    let len = 2 + 2 * r;
+    if out.len() < len {
+        return answered(12, 0);
+    }
+    let rec = field_record(r);
+    paste(out, &rec);
+    write_row(&mut out[2..], w, m, r);
     answered(0, len as u32)
 }

@@ -1,18 +1,20 @@
-// Questions on named accounts: C, the groups at k that hold all of them; D, of the stored groups that do the strongest; E, all stored groups that do.
+// Questions on named accounts: C, the groups at k that hold all of them; D, of the stored groups that do the strongest; E, all stored groups that do. Each lists them by falling
+// strength, then by more accounts held, then by least link.
 ghost use mathlib.Core.Path.{_≡_};
 ghost use mathlib.Core.Bool.{true};
 ghost use Prim.Native.Nat.{_+_, _*_, _<_, _≤_};
 ghost use lib.ListN.{length};
 ghost use Rattle.truss.specs.Limits.{maxNamed, minLevel};
-ghost use Rattle.truss.specs.Question.{ask-all, ask-groups-at, ask-strongest, isGroupAt};
+ghost use Rattle.truss.specs.Question.{ask-all, ask-groups-at, ask-strongest, isGroupAt, listed};
 ghost use Rattle.laws.proofs.Stored.{stored};
 ghost use Rattle.wire.specs.Writing.{Tells};
 ghost use Rattle.columns.specs.Columns.{COLUMNS};
 ghost use Rattle.columns.specs.Wiping.{zeros};
 ghost use Rattle.stored.specs.Rows.{Outlined, Sized, graphIn};
-ghost use Rattle.question.specs.Replies.{Answers};
+ghost use Rattle.ordering.specs.Rows.{marked};
+ghost use Rattle.question.specs.Replies.{Answers, Lists};
 ghost use Rattle.question.specs.Named.{AboveGives, Best, Counts, FaultGives, HeldGives, Kept, LevelGives, StrongestGives};
-use crate::lists::give;
+use crate::lists::give_row;
 use columns::get;
 use columns::put;
 use holding::marks::hold;
@@ -22,6 +24,7 @@ use index::open::Outline;
 use limits::MOST_NAMED;
 use limits::NO_GROUP;
 use limits::bad_level;
+use ordering::list_groups;
 use stored::rows::group_parent;
 use stored::rows::group_strength;
 use wire::field_at;
@@ -167,6 +170,16 @@ fn hold_named(s: &[u8], named: &[u8], w: &mut [u32], o: Outline) -> u32
     0
 }
 
+// The marked groups as they are listed, after their count, or 12.
+fn give_groups(s: &[u8], out: &mut [u8], w: &mut [u32], o: Outline) -> Reply
+    requires { ⌜ Outlined (now s) o ⌝ }
+    requires { ⌜ length (now w) ≡ COLUMNS * o .m ⌝ }
+    ensures { λ r. ⌜ Lists (listed (graphIn (now (s .entry))) (marked (now (w .entry)) (o .m) (o .groups))) (now (out .entry)) r (now (out .exit)) ⌝ }
+{
+    let r = list_groups(s, o, w);
+    give_row(out, w, o.m, r)
+}
+
 // C. The groups at k that hold all named accounts.
 pub fn groups_at(
     s: &[u8],
@@ -189,7 +202,7 @@ pub fn groups_at(
     }
     hold(s, o, named, named.len() / 2, w);
     keep_level(s, o.at, w, o.m, o.groups, k);
-    give(out, w, o.m, o.groups)
+    give_groups(s, out, w, o)
 }
 
 // D. Of the stored groups that hold all of them, those whose strength is greatest.
@@ -204,7 +217,7 @@ pub fn strongest_groups(s: &[u8], named: &[u8], out: &mut [u8], w: &mut [u32], o
     }
     let best = greatest(s, o.at, w, o.m, o.groups);
     keep_strongest(s, o.at, w, o.m, o.groups, best);
-    give(out, w, o.m, o.groups)
+    give_groups(s, out, w, o)
 }
 
 // E. All stored groups that hold all of them.
@@ -217,5 +230,5 @@ pub fn all_groups(s: &[u8], named: &[u8], out: &mut [u8], w: &mut [u32], o: Outl
     if f != 0 {
         return answered(f, 0);
     }
-    give(out, w, o.m, o.groups)
+    give_groups(s, out, w, o)
 }

@@ -4,7 +4,8 @@ use mathlib.Core.Path.{_≡_, sym, ap, _∙_}
 use Prim.Native.Nat.{ℕ, _+_, _-_, _≤_}
 use borrow.Author.Needs.{needs}
 use lib.ListN.{length}
-use Rattle.question.specs.Lists.{marked, marked-none, marked-few, counted-more}
+use Rattle.ordering.specs.Rows.{marked, marked-none}
+use Rattle.question.specs.Lists.{marked-few, counted-more}
 use Rattle.question.proofs.lists.count_marks.Statement.{statement}
 use Rattle.question.proofs.lists.count_marks.Tie as tie
 

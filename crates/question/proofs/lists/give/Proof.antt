@@ -6,7 +6,8 @@ use lib.ListN.{length}
 use Rattle.truss.specs.Record.{field}
 use Rattle.truss.specs.Lists.{concatMap}
 use Rattle.wire.specs.Writing.{written, written-next}
-use Rattle.question.specs.Lists.{marked, marked-few, list-no-room, list-wrote}
+use Rattle.ordering.specs.Rows.{marked}
+use Rattle.question.specs.Lists.{marked-few, list-no-room, list-wrote}
 use borrow.Author.Needs.{needs}
 use Rattle.question.proofs.lists.give.Statement.{statement}
 use Rattle.question.proofs.lists.give.Tie as tie

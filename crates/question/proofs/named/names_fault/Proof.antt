@@ -13,10 +13,10 @@ mul-if2 : tie.Need-mul-if2
 mul-if2 c = search needs
 
 returns-2 : tie.Need-returns-2
-returns-2 c = λ G q. fault-8 (c .before .before .before .args .named .now) G (many-named (c .before .before .before .args .named .now) (c .before .if1 .left) (c .if2 .taken))
+returns-2 c = λ G q. fault-8 (c .before .before .before .args .named .now) G (many-named (c .before .before .before .args .named .now) (c .if2 .taken))
 
 returns-3 : tie.Need-returns-3
-returns-3 c = λ G q. fault-8 (c .before .before .before .before .args .named .now) G (odd-named (c .before .before .before .before .args .named .now) (c .before .before .if1 .left) (c .before .if2 .left) (c .if3 .taken))
+returns-3 c = λ G q. fault-8 (c .before .before .before .before .args .named .now) G (odd-named (c .before .before .before .before .args .named .now) (c .if3 .taken))
 
 some-outside-requires : tie.Need-some-outside-requires
 some-outside-requires c κs = (half-named (c .before .before .before .before .args .named .now) (c .if3 .left), omega (arith, c .before .if2 .left))
