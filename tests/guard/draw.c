@@ -75,10 +75,35 @@ static void add_nest(struct random *r, struct turn *t, uint32_t first) {
     put_two(t->card + 1, 2 * first);
 }
 
+/* Parties of up to seven accounts that have one in common, the first or the last: rows, in which each account is linked to the next two, cliques, and cliques to which
+ * the common account has two links. So some are as strong, some as large, and some lie in others. */
+static void add_parties(struct random *r, struct turn *t) {
+    enum { MOST = 6, LAST = 6 * MOST + 1 };
+    uint32_t common = random_below(r, 2) ? LAST : 0, next = 1;
+    for (uint32_t parties = 2 + random_below(r, MOST - 1); parties; parties--) {
+        uint32_t others = 2 + random_below(r, 5), first = next, last = next + others - 1;
+        next += others;
+        switch (random_below(r, 5)) {
+        case 0: case 1:
+            for (uint32_t a = first; a <= last; a++) {
+                add_link(t, a == first ? common : a - 1, a);
+                if (a > first) add_link(t, a == first + 1 ? common : a - 2, a);
+            }
+            break;
+        case 2:
+            for (uint32_t a = first; a <= last; a++) add_link(t, common, a);
+            add_clique(r, t, first, others, 0);
+            break;
+        default: add_link(t, common, first), add_link(t, common, first + 1), add_clique(r, t, first, others, 0); break;
+        }
+    }
+    put_two(t->card + 1, LAST + 1);
+}
+
 static void draw_card(struct random *r, struct turn *t) {
     uint32_t few = 1 + random_below(r, 12);
     start_card(t, few);
-    switch (random_below(r, 9)) {
+    switch (random_below(r, 10)) {
     case 0: break;
     case 1: add_random_links(r, t, few * few / 2); break;
     case 2: put_two(t->card + 1, few + 1), add_clique(r, t, 0, few, 0); break;
@@ -87,6 +112,7 @@ static void draw_card(struct random *r, struct turn *t) {
     case 5: add_nest(r, t, 3 + few / 2); break;
     case 6: put_two(t->card + 1, 20 + random_below(r, 20)), add_random_links(r, t, 60 + random_below(r, 100)); break;
     case 7: add_cliques(r, t, 4), put_two(t->card + 1, random_below(r, 2) ? ACCOUNTS : 40), add_random_links(r, t, 20); break;
+    case 8: add_parties(r, t); break;
     default: put_two(t->card + 1, 1 + random_below(r, 60)), add_random_links(r, t, 40); break;
     }
     if (random_below(r, 400) == 0) { /* seldom a card at the limits: it takes long */
@@ -205,7 +231,22 @@ static void draw_numbers(struct random *r, struct turn *t) {
     if (random_below(r, 60) == 0) t->number[random_below(r, 4)] += random_below(r, 2) ? UINT32_C(0x10000) : UINT32_C(0x80000000);
 }
 
+/* The account with the most links, which may be in several groups. */
+static uint32_t busiest_account(const struct turn *t) {
+    uint16_t links_at[ACCOUNTS] = {0};
+    uint32_t busiest = 0;
+    for (uint32_t end = 0; end < 2 * links_in(t); end++) {
+        uint32_t account = two(t->card + 5 + 5 * (size_t)(end / 2) + 1 + 2 * (end % 2));
+        if (account < ACCOUNTS && ++links_at[account] > links_at[busiest]) busiest = account;
+    }
+    return busiest;
+}
+
 static void draw_accounts(struct random *r, struct turn *t) {
+    if (random_below(r, 4) == 0) {
+        t->accounts_len = 2, put_two(t->accounts, busiest_account(t));
+        return;
+    }
     t->accounts_len = (uint8_t)(2 * (1 + random_below(r, random_below(r, 4) ? 3 : 16)));
     if (random_below(r, 12) == 0) t->accounts_len = (uint8_t)random_below(r, TURN_ACCOUNTS + 1);
     for (int at = 0; at + 1 < t->accounts_len; at += 2) put_two(t->accounts + at, at && random_below(r, 5) == 0 ? two(t->accounts) : some_account(r, t));
@@ -213,7 +254,7 @@ static void draw_accounts(struct random *r, struct turn *t) {
 
 static void draw_level(struct random *r, struct turn *t) {
     static const uint32_t EDGES[] = {0, 1, 2, 63, 64, 65, 66, 67, 255, 256, 259, UINT32_C(0x10003), UINT32_C(0x80000003), UINT32_MAX};
-    t->k = random_below(r, 10) ? 3 + random_below(r, 5) : EDGES[random_below(r, sizeof EDGES / sizeof *EDGES)];
+    t->k = random_below(r, 10) ? 3 + random_below(r, 1 + random_below(r, 5)) : EDGES[random_below(r, sizeof EDGES / sizeof *EDGES)];
 }
 
 static void draw_tally(struct random *r, struct turn *t) {

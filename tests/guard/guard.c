@@ -32,7 +32,7 @@ struct kept {
 
 static struct kept kept[KEPT];
 static size_t kept_count;
-static uint64_t passed, failed, made, met_count[CALLS][REPLIES], answered[FE_WINDOWS];
+static uint64_t passed, failed, made, met_count[CALLS][REPLIES], reordered[CALLS], answered[FE_WINDOWS];
 
 static uint8_t data[TURN_MAX];
 static struct turn turn, other;
@@ -99,7 +99,7 @@ static int one(const struct turn *t) {
         return 0;
     }
     passed++;
-    met_count[met.call][met.reply.refusal]++;
+    met_count[met.call][met.reply.refusal]++, reordered[met.call] += (uint64_t)met.reordered;
     if (is_question(met.call) && met.reply.refusal == 0) answered[t->window]++;
     return coverage_blocks() ? coverage_look() != 0 : is_new_reply(&met);
 }
@@ -142,10 +142,11 @@ static void show_met(void) {
             printf(", by %d: %llu", *refusal, (unsigned long long)met_count[call][*refusal]);
             all &= met_count[call][*refusal] > 0;
         }
+        if (has_accounts(call)) printf(", groups in another order than the index's: %llu", (unsigned long long)reordered[call]), all &= reordered[call] > 0;
         printf("\n");
         if (all) continue;
         failed++;
-        printf("FAILED guard: some reply of %s was never met\n", name_of(call));
+        printf("FAILED guard: some reply or order of %s was never met\n", name_of(call));
     }
     uint64_t least = answered[0];
     for (int window = 1; window < FE_WINDOWS; window++) least = answered[window] < least ? answered[window] : least;

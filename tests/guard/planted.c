@@ -215,6 +215,123 @@ static fe_reply fourth_account_cut(const struct asked *a) {
     return make_call(&other);
 }
 
+/* ---- the order of groups ---- */
+
+/* What the order of a group may be taken from; the first key counts most, and lower ones come first. */
+struct judged {
+    int number, strength, least, links, accounts, own_accounts; /* links and accounts of nested groups too, but for own accounts */
+    int key[3];
+};
+
+static struct judged judge(const uint8_t *index, uint32_t number) {
+    enum { ACCOUNTS = 1024, NONE = 0xFFFF };
+    uint8_t own[ACCOUNTS] = {0}, held[ACCOUNTS] = {0};
+    const uint8_t *groups = index + 5;
+    while (*groups != 4) groups += *groups == 2 ? 8 : 6;
+    const uint8_t *record = groups + 6 * (size_t)number;
+    struct judged g = {.number = (int)number, .strength = record[3], .least = (int)two(record + 4)};
+    for (const uint8_t *link = index + 5; *link == 2; link += 8) {
+        uint32_t above = two(link + 6);
+        if (above == number) own[two(link + 1)] = own[two(link + 3)] = 1;
+        while (above != NONE && above != number) above = two(groups + 6 * (size_t)above + 1);
+        if (above == number) held[two(link + 1)] = held[two(link + 3)] = 1, g.links++;
+    }
+    for (int account = 0; account < ACCOUNTS; account++) g.own_accounts += own[account], g.accounts += held[account];
+    return g;
+}
+
+static int is_before(const struct judged *g, const struct judged *other) {
+    for (int i = 0; i < 3; i++)
+        if (g->key[i] != other->key[i]) return g->key[i] < other->key[i];
+    return 0;
+}
+
+/* Puts the groups of an answer in the order of other keys. */
+static fe_reply in_order(const struct asked *a, void set_keys(struct judged *)) {
+    static struct judged groups[2048];
+    fe_reply reply = make_call(a);
+    size_t count = reply.refusal ? 0 : two(a->buffer.at);
+    for (size_t i = 0; i < count; i++) {
+        struct judged g = judge(a->read.at, two(a->buffer.at + 2 + 2 * i));
+        size_t at = i;
+        set_keys(&g);
+        for (; at > 0 && is_before(&g, &groups[at - 1]); at--) groups[at] = groups[at - 1];
+        groups[at] = g;
+    }
+    for (size_t i = 0; i < count; i++) put_two(a->buffer.at + 2 + 2 * i, (uint32_t)groups[i].number);
+    return reply;
+}
+
+static void set_three(struct judged *g, int first, int second, int third) {
+    g->key[0] = first, g->key[1] = second, g->key[2] = third;
+}
+
+static void by_number(struct judged *g) {
+    set_three(g, g->number, 0, 0);
+}
+
+static void by_fewer_accounts(struct judged *g) {
+    set_three(g, -g->strength, g->accounts, g->least);
+}
+
+static void by_less_strength(struct judged *g) {
+    set_three(g, g->strength, -g->accounts, g->least);
+}
+
+static void by_own_accounts(struct judged *g) {
+    set_three(g, -g->strength, -g->own_accounts, g->least);
+}
+
+static void by_links(struct judged *g) {
+    set_three(g, -g->strength, -g->links, g->least);
+}
+
+static void by_falling_least_link(struct judged *g) {
+    set_three(g, -g->strength, -g->accounts, -g->least);
+}
+
+static void by_accounts_first(struct judged *g) {
+    set_three(g, -g->accounts, -g->strength, g->least);
+}
+
+static fe_reply index_order(const struct asked *a) {
+    return in_order(a, by_number);
+}
+
+static fe_reply smaller_first(const struct asked *a) {
+    return in_order(a, by_fewer_accounts);
+}
+
+static fe_reply weaker_first(const struct asked *a) {
+    return in_order(a, by_less_strength);
+}
+
+static fe_reply nested_left_out(const struct asked *a) {
+    return in_order(a, by_own_accounts);
+}
+
+static fe_reply links_for_accounts(const struct asked *a) {
+    return in_order(a, by_links);
+}
+
+static fe_reply greatest_least_link_first(const struct asked *a) {
+    return in_order(a, by_falling_least_link);
+}
+
+static fe_reply larger_before_stronger(const struct asked *a) {
+    return in_order(a, by_accounts_first);
+}
+
+/* Those that hold as many accounts as the first. */
+static fe_reply largest_only(const struct asked *a) {
+    fe_reply reply = make_call(a);
+    if (reply.refusal || reply.value < 6) return reply;
+    int most = judge(a->read.at, two(a->buffer.at + 2)).accounts;
+    while (judge(a->read.at, two(a->buffer.at + reply.value - 2)).accounts < most) reply.value -= 2;
+    put_two(a->buffer.at, (reply.value - 2) / 2);
+    return reply;
+}
+
 /* ---- chains ---- */
 
 static fe_reply one_triangle_less(const struct asked *a) {
@@ -576,6 +693,26 @@ const struct planted PLANTED[] = {
     {"12 before the other refusals", STRENGTH, short_desk_first},
     {"all groups for the strongest", STRONGEST, all_for_strongest},
     {"the groups at 4 for those at 3", GROUPS_AT, four_for_three},
+    {"C in the index's order", GROUPS_AT, index_order},
+    {"D in the index's order", STRONGEST, index_order},
+    {"E in the index's order", ALL_GROUPS, index_order},
+    {"fewer accounts first in C", GROUPS_AT, smaller_first},
+    {"fewer accounts first in D", STRONGEST, smaller_first},
+    {"fewer accounts first in E", ALL_GROUPS, smaller_first},
+    {"less strength first in C", GROUPS_AT, weaker_first},
+    {"less strength first in E", ALL_GROUPS, weaker_first},
+    {"more accounts before more strength in C", GROUPS_AT, larger_before_stronger},
+    {"more accounts before more strength in E", ALL_GROUPS, larger_before_stronger},
+    {"accounts of nested groups left out in C", GROUPS_AT, nested_left_out},
+    {"accounts of nested groups left out in D", STRONGEST, nested_left_out},
+    {"accounts of nested groups left out in E", ALL_GROUPS, nested_left_out},
+    {"links counted for accounts in C", GROUPS_AT, links_for_accounts},
+    {"links counted for accounts in D", STRONGEST, links_for_accounts},
+    {"links counted for accounts in E", ALL_GROUPS, links_for_accounts},
+    {"as large groups by falling least link in C", GROUPS_AT, greatest_least_link_first},
+    {"as large groups by falling least link in D", STRONGEST, greatest_least_link_first},
+    {"as large groups by falling least link in E", ALL_GROUPS, greatest_least_link_first},
+    {"only the largest of the strongest", STRONGEST, largest_only},
     {"k cut to a byte", GROUP_LINKS, level_cut},
     {"an account cut to two bytes", GROUP_LINKS, account_cut},
     {"the tally moved by two", STRENGTH, tally_by_two},

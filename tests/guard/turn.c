@@ -256,6 +256,13 @@ static const char *changes(const struct asked *asked, int answered, const uint8_
     return NULL;
 }
 
+/* Whether numbers of groups, after their count, are in another order than the index's. */
+static int is_reordered(const uint8_t *answer, size_t length) {
+    for (size_t at = 4; at + 2 <= length; at += 2)
+        if (two(answer + at - 2) > two(answer + at)) return 1;
+    return 0;
+}
+
 static const char *replies(fe_reply found, fe_reply wanted) {
     if (found.third) return "third is not 0";
     if (found.refusal == wanted.refusal && found.value == wanted.value && found.second == wanted.second) return NULL;
@@ -282,6 +289,7 @@ const char *turn_run(library *call, const struct turn *t, struct met *met) {
     int question = is_question(t->call), answered = wanted.refusal == 0;
     size_t length = answered && has_buffer(t->call) ? wanted.value : 0, room = room_of(t, length);
     if (answered && (room < length || (question && t->desk_len < FE_DESK))) wanted = (fe_reply){12, 0, 0, 0}, answered = 0;
+    met->reordered = answered && has_accounts(t->call) && is_reordered(result, length);
 
     /* what is lent */
     const uint8_t *before = noise + t->given;

@@ -41,6 +41,7 @@ struct met {
     enum call call;
     fe_reply reply;
     size_t length; /* of what the call read */
+    int reordered; /* an answer of groups in another order than the index's */
     uint32_t made; /* calls of the library, for the result and for what it must be */
 };
 

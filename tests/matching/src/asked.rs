@@ -62,6 +62,8 @@ pub struct Met {
     answers: [[usize; 3]; 7],
     /// A of strength 3 or more: s - 2 triangles, more of them.
     triangles: [usize; 2],
+    /// C, D and E of several groups: as the index has them, in another order.
+    orders: [[usize; 2]; 3],
     /// By window: answered.
     windows: [usize; WINDOWS as usize],
 }
@@ -89,7 +91,7 @@ const KINDS: [[(u32, &str); 2]; 7] = [
 ];
 
 impl Met {
-    fn add(&mut self, question: &Question, window: u32, reply: terminal::Reply) {
+    fn add(&mut self, question: &Question, window: u32, reply: terminal::Reply, answer: &[u8]) {
         let at = question.letter() as usize - 'A' as usize;
         self.replies[at][reply.refusal as usize] += 1;
         if reply.refusal == 0 {
@@ -98,6 +100,10 @@ impl Met {
             if at == 0 && reply.value > 2 {
                 let more = reply.second > reply.value - 2;
                 self.triangles[usize::from(more)] += 1;
+            }
+            if matches!(at, 2..=4) && reply.value > 4 {
+                let rising = answer[2..reply.value as usize].chunks(2).is_sorted();
+                self.orders[at - 2][usize::from(!rising)] += 1;
             }
             self.windows[window as usize] += 1;
         }
@@ -112,10 +118,13 @@ impl Met {
             sum(&mut self.answers[at], &other.answers[at]);
         }
         sum(&mut self.triangles, &other.triangles);
+        for (to, from) in self.orders.iter_mut().zip(&other.orders) {
+            sum(to, from);
+        }
         sum(&mut self.windows, &other.windows);
     }
 
-    /// Prints the counts. False if a reply that a question can have was never met, or a window never answered.
+    /// Prints the counts. False if a reply that a question can have was never met, an order of groups, or a window never answered.
     pub fn show(&self) -> bool {
         let mut all = true;
         let asked: usize = self.replies.iter().flatten().sum();
@@ -135,6 +144,10 @@ impl Met {
         }
         let [just, more] = self.triangles;
         println!("  A at s from 3 up with s - 2 triangles: {just}, with more: {more}");
+        for (letter, [rising, other]) in ('C'..='E').zip(self.orders) {
+            println!("  {letter} of several groups as the index has them: {rising}, in another order: {other}");
+            all &= rising > 0 && other > 0;
+        }
         let least = self.windows.iter().min().expect("windows");
         println!("  answered to each window: {least} or more");
         all && just > 0 && more > 0 && *least > 0
@@ -198,7 +211,8 @@ impl<'a> Asker<'a> {
         let reply = unsafe { (self.ask)(question, &lent) };
 
         let wanted = four_numbers(expected);
-        self.met.add(question, *window, wanted);
+        let right_answer = &right[answer.from..answer.to];
+        self.met.add(question, *window, wanted, right_answer);
         let fault = |what: String| {
             let at = record.len().min(4 * (*window).min(WINDOWS) as usize);
             let tally = &record[at..record.len().min(at + 4)];

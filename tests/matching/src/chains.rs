@@ -126,7 +126,7 @@ fn rooms() -> Lot {
 }
 
 /// So many accounts in a row, each linked to the next two.
-fn strip(accounts: u16) -> Pairs {
+pub fn strip(accounts: u16) -> Pairs {
     let next = (1..accounts).map(|a| (a - 1, a));
     next.chain((2..accounts).map(|a| (a - 2, a))).collect()
 }

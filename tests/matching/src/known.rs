@@ -3,6 +3,9 @@
 use crate::asked::Found;
 use crate::lent::RULES;
 use crate::limits::{all_pairs, flat, CARD_A};
+use crate::parties::{
+    beside, book, clique, every_kind, five_less_one, nested, strip, triangle, wheel, Party,
+};
 use reference::card::{links_file, Card};
 use reference::fast;
 use reference::records::two;
@@ -53,7 +56,7 @@ impl Known {
     }
 }
 
-fn named(accounts: &[u16]) -> Vec<u8> {
+pub fn named(accounts: &[u16]) -> Vec<u8> {
     accounts.iter().flat_map(|a| a.to_be_bytes()).collect()
 }
 
@@ -105,6 +108,137 @@ pub fn nest(first: u16) -> Vec<((u16, u16), u16)> {
     let mut links: Vec<_> = whole.chain(more).collect();
     links.sort();
     links
+}
+
+/// Parties with account 0 in common, of which the larger of one strength come first whatever their numbers: C at 3, D and E on it, and more.
+fn larger_first(add: &mut impl FnMut(&str, Vec<u8>, Vec<Vec<(Question, Said)>>)) {
+    let at = |account: u16, k| C(named(&[account]), k);
+    let strongest = |account: u16| D(named(&[account]));
+    let every = |account: u16| E(named(&[account]));
+    let file = |parties: &[Party]| {
+        let Party { accounts, links } = beside(parties);
+        links_file(accounts, &links)
+    };
+    // Of one strength, so that C, D and E are the same.
+    let same = |said: Vec<u16>| {
+        numbers(vec![
+            (at(0, 3), said.clone()),
+            (strongest(0), said.clone()),
+            (every(0), said),
+        ])
+    };
+
+    // A triangle, and two that share a link: of three and of four accounts.
+    let links = [
+        (0, 1),
+        (0, 2),
+        (1, 2),
+        (2, 3),
+        (2, 4),
+        (3, 4),
+        (3, 5),
+        (4, 5),
+    ];
+    add(
+        "larger-later",
+        links_file(6, &links),
+        vec![numbers(vec![
+            (every(2), vec![1, 0]),
+            (strongest(2), vec![1, 0]),
+            (at(2, 3), vec![1, 0]),
+            (E(named(&[2; 16])), vec![1, 0]),
+            (at(2, 4), vec![]),
+            (every(0), vec![0]),
+            (every(4), vec![1]),
+            (F((2, 4), 3), vec![3, 4, 5, 6, 7]),
+        ])],
+    );
+    // Five accounts each; seven links, then eight.
+    add(
+        "more-links-as-many-accounts",
+        file(&[book(5), wheel(5)]),
+        vec![same(vec![0, 1])],
+    );
+    // Six accounts and twelve links, then seven accounts and eleven links. In the first is a group that does not hold account 0.
+    add(
+        "more-links-fewer-accounts",
+        file(&[nested(6), strip(7)]),
+        vec![same(vec![2, 1])],
+    );
+    // Own links with five accounts, and with three of six: the nested ones count.
+    add(
+        "nested-accounts-count",
+        file(&[wheel(5), nested(6)]),
+        vec![
+            same(vec![2, 1]),
+            numbers(vec![
+                (every(5), vec![0, 2]),
+                (strongest(5), vec![0]),
+                (at(5, 3), vec![2]),
+                (at(5, 4), vec![0]),
+                // rising, though the first two have strength 3 and the others 5
+                (F((0, 5), 3), [3, 4].into_iter().chain(10..20).collect()),
+            ]),
+        ],
+    );
+    add(
+        "nested-accounts-count-first",
+        file(&[nested(6), wheel(5)]),
+        vec![same(vec![1, 2])],
+    );
+    // Strength 4 with four accounts, strength 3 with seven.
+    add(
+        "stronger-before-larger",
+        file(&[strip(7), clique(4)]),
+        vec![numbers(vec![
+            (at(0, 3), vec![0, 1]),
+            (at(0, 4), vec![0]),
+            (strongest(0), vec![0]),
+            (every(0), vec![0, 1]),
+        ])],
+    );
+    // Of strength 4 four accounts and five, of strength 3 three and seven.
+    let twice = [triangle(), clique(4), strip(7), five_less_one()];
+    add(
+        "larger-of-each-strength",
+        file(&twice),
+        vec![numbers(vec![
+            (at(0, 3), vec![1, 0, 3, 2]),
+            (at(0, 4), vec![1, 0]),
+            (strongest(0), vec![1, 0]),
+            (every(0), vec![1, 0, 3, 2]),
+        ])],
+    );
+    let ties = [triangle(), strip(4), triangle(), strip(4), triangle()];
+    add(
+        "as-large-by-least-link",
+        file(&ties),
+        vec![same(vec![1, 3, 0, 2, 4])],
+    );
+    add(
+        "every-kind-of-party",
+        file(&[every_kind()]),
+        vec![numbers(vec![
+            (at(0, 3), vec![3, 2, 1, 9, 8, 5, 7, 6, 4, 10]),
+            (at(0, 4), vec![3, 2, 1]),
+            (at(0, 5), vec![]),
+            (strongest(0), vec![3, 2, 1]),
+            (every(0), vec![3, 2, 1, 9, 8, 5, 7, 6, 4, 10]),
+        ])],
+    );
+    // 3, 255, 256 and 258 accounts: a count of them does not fit a byte.
+    add(
+        "parties-above-255",
+        file(&[triangle(), strip(255), strip(256), strip(258)]),
+        vec![same(vec![3, 2, 1, 0])],
+    );
+    // 204 triangles, then 204 of four accounts.
+    let halves = [vec![triangle(); 204], vec![strip(4); 204]].concat();
+    add(
+        "all-smaller-first",
+        file(&halves),
+        vec![same((204..408).chain(0..204).collect())],
+    );
 }
 
 pub fn all() -> Vec<Known> {
@@ -386,6 +520,7 @@ pub fn all() -> Vec<Known> {
             (every(&[1_023]), vec![]),
         ])],
     );
+    larger_first(&mut add);
     // A link with every other account as a third one: no link is in more triangles.
     let leaves = (2..1_024).flat_map(|account| [(0, account), (1, account)]);
     let book: Vec<_> = [(0, 1)].into_iter().chain(leaves).collect();

@@ -1,6 +1,6 @@
 //! Matches the library's C calls against the reference, an independent program: build and reading on random, shuffled and damaged files and on files at the
-//! limits, random questions and changes on the random indexes, good and damaged, questions with known answers, questions A and G, the windows and the faults of changes
-//! gone through in order, long rows of changes; and the lister's text.
+//! limits, random questions and changes on the random indexes, good and damaged, questions with known answers, questions A, C to E and G, the windows and the faults of
+//! changes gone through in order, long rows of changes; and the lister's text.
 //!
 //! With no word: all of it. With a number: the files, questions and changes of that seed. With a name: that file at the limits, that known answer, that row, or that
 //! part of what is gone through in order.
@@ -15,6 +15,7 @@ mod known;
 mod lent;
 mod limits;
 mod listing;
+mod parties;
 mod planted;
 mod planted_changes;
 mod planted_questions;
@@ -262,7 +263,7 @@ fn as_said(limit: &limits::Limit, index: Option<Vec<u8>>) -> Result<(), String> 
     }
 }
 
-/// Questions whose answers are known without the reference.
+/// Questions whose answers are known without the reference, and a list.
 fn known_answers(count: &mut Count, only: Option<&str>) {
     let wanted = |name: &str| only.is_none_or(|only| only == name);
     for (at, known) in known::all().iter().enumerate() {
@@ -281,12 +282,19 @@ fn known_answers(count: &mut Count, only: Option<&str>) {
         let what = format!("asked {:?}", known.question);
         count.add(&known.name, &index, &what, found);
     }
+    if wanted("every-kind-listed") {
+        let (index, found) = listing::known();
+        count.add("every-kind-listed", &index, "listed", found);
+    }
 }
 
-/// Questions A and G and the windows gone through in order. On an index, those after a failure are left out.
+/// Questions A, C to E and G and the windows gone through in order. On an index, those after a failure are left out.
 fn in_order(count: &mut Count, only: Option<&str>) {
     let wanted = |name: &str| only.is_none_or(|only| only == name);
-    let lots = chains::all().chain(firmness::all()).chain(windows::all());
+    let lots = chains::all()
+        .chain(firmness::all())
+        .chain(parties::all())
+        .chain(windows::all());
     for lot in lots.filter(|lot| wanted(lot.name)) {
         let mut noise = Random::new(lot.index.len() as u64);
         let mut asker = Asker::new(terminal::ask, &mut noise, &lot.index);
