@@ -19,6 +19,9 @@ use terminal::{Change, Question, ANSWER_MAX, DESK, INDEX_MAX};
 
 const TURNS: usize = 3_000;
 
+/// Of the table of questions.
+const COLUMNS: usize = 9;
+
 /// The reference with the requests that the library has.
 const RULES: Rules = Rules {
     requests: terminal::REQUESTS,
@@ -36,6 +39,13 @@ impl Least {
     fn micros(&self) -> f64 {
         self.0.as_secs_f64() * 1e6
     }
+}
+
+/// A question, what the table says of its answer, and its least time.
+struct Asked {
+    question: Question,
+    note: String,
+    least: Least,
 }
 
 /// The least time of igraph's turns, in microseconds.
@@ -103,9 +113,10 @@ fn chains(index: &Index) -> [Question; 2] {
     })
 }
 
-/// One question of each kind with much to do, of A and G two. The second link of A is one with the most links at its ends. The accounts and the link of F are of the group with the most links, the accounts those with the most
-/// links in all.
-fn questions(index: &Index) -> [Question; 9] {
+/// By column of the table, questions with much to do; of several in one column the worst is shown. The second link of A is one with the most links at its ends. The
+/// accounts and the link of F are of the group with the most links, the accounts those with the most links in all; C, D and E also name the account that is in the most
+/// groups, again and again.
+fn questions(index: &Index) -> [Vec<Question>; COLUMNS] {
     let held_by = |link: &StrongLink| index.climb(link.group).collect::<BTreeSet<_>>();
     let ends = |link: &StrongLink| (link.lower.into(), link.higher.into());
     let links: &[StrongLink] = &index.links;
@@ -138,20 +149,35 @@ fn questions(index: &Index) -> [Question; 9] {
     let accounts: BTreeSet<u16> = accounts.collect();
     let mut accounts: Vec<u16> = accounts.into_iter().collect();
     accounts.sort_by_key(|&account| Reverse(links_at[usize::from(account)]));
-    let named = accounts.iter().cycle().take(MAX_NAMED);
-    let named: Vec<u8> = named.flat_map(|account| account.to_be_bytes()).collect();
+
+    let mut groups_of = vec![BTreeSet::new(); MAX_ACCOUNTS.into()];
+    for link in links {
+        for account in [link.lower, link.higher] {
+            groups_of[usize::from(account)].extend(held_by(link));
+        }
+    }
+    let in_most = (0..).zip(&groups_of);
+    let in_most = in_most.max_by_key(|(_, groups)| groups.len());
+    let (in_most, _) = in_most.expect("an account");
+
+    let sixteen = |accounts: &[u16]| -> Vec<u8> {
+        let named = accounts.iter().cycle().take(MAX_NAMED);
+        named.flat_map(|account| account.to_be_bytes()).collect()
+    };
+    let named = [sixteen(&accounts), sixteen(&[in_most])];
+    let of_both = |question: fn(Vec<u8>) -> Question| named.clone().map(question).to_vec();
 
     let [longest, middle] = chains(index);
     [
-        Question::A(ends(last)),
-        Question::A(ends(busiest)),
-        Question::B(ends(deepest), ends(farthest)),
-        Question::C(named.clone(), 3),
-        Question::D(named.clone()),
-        Question::E(named),
-        Question::F(ends(of_largest), 3),
-        longest,
-        middle,
+        vec![Question::A(ends(last))],
+        vec![Question::A(ends(busiest))],
+        vec![Question::B(ends(deepest), ends(farthest))],
+        of_both(|named| Question::C(named, 3)),
+        of_both(Question::D),
+        of_both(Question::E),
+        vec![Question::F(ends(of_largest), 3)],
+        vec![longest],
+        vec![middle],
     ]
 }
 
@@ -209,16 +235,25 @@ fn main() {
 
         let questions = questions(&Index::read(RULES, index).expect("an index"));
         let (mut answer, mut desk) = ([0; ANSWER_MAX], [0; DESK]);
-        let mut notes = [const { String::new() }; 9];
-        for (question, note) in questions.iter().zip(&mut notes) {
-            let reply = terminal::put(question, index, &mut answer, &mut desk);
-            assert!(reply.refusal == 0, "a question is refused");
-            match question {
-                Question::A(_) => *note = format!(" ({} at {})", reply.second, reply.value),
-                Question::G(_, _, k) => *note = format!(" ({} at {k})", two(&answer, 0)),
-                _ => {}
-            }
-        }
+        let mut asking = questions.map(|column| -> Vec<Asked> {
+            let timed = column.into_iter().map(|question| {
+                let reply = terminal::put(&question, index, &mut answer, &mut desk);
+                assert!(reply.refusal == 0, "a question is refused");
+                let count = two(&answer, 0);
+                let note = match question {
+                    Question::A(_) => format!(" ({} at {})", reply.second, reply.value),
+                    Question::C(..) | Question::D(_) | Question::E(_) => format!(" ({count})"),
+                    Question::G(_, _, k) => format!(" ({count} at {k})"),
+                    _ => String::new(),
+                };
+                Asked {
+                    question,
+                    note,
+                    least: Least(Duration::MAX),
+                }
+            });
+            timed.collect()
+        });
 
         let changes = changes(index);
         let mut altered = [0; INDEX_MAX];
@@ -226,15 +261,17 @@ fn main() {
         let mut library = Least(Duration::MAX);
         let mut reading = Least(Duration::MAX);
         let mut reference = Least(Duration::MAX);
-        let mut asking = [const { Least(Duration::MAX) }; 9];
         let mut changing = [const { Least(Duration::MAX) }; 2];
         for _ in 0..TURNS {
             library.time(|| terminal::build(black_box(&file), &mut ours));
             reading.time(|| terminal::read(black_box(index), &mut back));
             reference
                 .time(|| reference::fast::build(RULES, black_box(&file), &mut theirs, &mut []));
-            for (question, least) in questions.iter().zip(&mut asking) {
-                least.time(|| terminal::put(black_box(question), index, &mut answer, &mut desk));
+            for asked in asking.iter_mut().flatten() {
+                let question = black_box(&asked.question);
+                asked
+                    .least
+                    .time(|| terminal::put(question, index, &mut answer, &mut desk));
             }
             for ((change, index), least) in changes.iter().zip(&mut changing) {
                 least.time(|| terminal::change(black_box(*change), index, &mut altered));
@@ -254,7 +291,9 @@ fn main() {
             igraph.map_or("-".to_string(), |time| format!("{time:.1}")),
         );
         asked += &format!("\n| {name} |");
-        for (least, note) in asking.iter().zip(&notes) {
+        for column in &asking {
+            let worst = column.iter().max_by_key(|asked| asked.least.0);
+            let Asked { note, least, .. } = worst.expect("a question");
             asked += &format!(" {:.2}{note} |", least.micros() / library.micros());
         }
         changed += &format!("\n| {name} |");
