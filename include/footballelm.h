@@ -32,8 +32,8 @@ typedef struct {
 #define FE_DESK 128
 
 /* Bytes of stack that are enough for any call, below the caller's frame. No function calls itself, directly or through others, and each frame has a fixed size, so the
- * deepest row of calls bounds every call, whatever is lent: 156,136 bytes of fe_build, 147,992 of fe_read, 148,040 of a change, 153,032 of a question. Summed from
- * the object code (tests/frames) and measured (tests/c/stack.c), not proved. The other 7,704 bytes are for the C library's memset and memcpy: a first call that had to
+ * deepest row of calls bounds every call, whatever is lent: 147,944 bytes of fe_build, 147,992 of fe_read, 148,040 of a change, 153,096 of a question. Summed from
+ * the object code (tests/frames) and measured (tests/c/stack.c), not proved. The other 10,744 bytes are for the C library's memset and memcpy: a first call that had to
  * bind memset took 3,136 of them. A thread needs all this and what its own functions take. */
 #define FE_STACK_MAX 163840
 
@@ -117,13 +117,15 @@ fe_reply fe_withdraw(const uint8_t *index, size_t index_len, uint32_t a, uint32_
  *             (trussness). A link in no triangle has 2.
  *   group     at k, from 3 to 64: a link of strength k or more with every link that it reaches over triangles, each sharing a link with the one before, whose
  *             links all have strength k or more (a triangle-connected k-truss community). The same set is stored once, and its strength is its largest k.
- *             Stored groups are numbered from 0, by falling strength, then by least link. A group holds an account that is an end of one of its links.
+ *             Stored groups are numbered from 0, by falling strength, then by least link. A group holds an account that is an end of one of its links; the
+ *             links of a group that lies in it are its links too.
  *
  * What is given:
  *   index, index_len        the index; it is only read. Any bytes may be lent: every question checks them all, which costs about one build.
  *   accounts, accounts_len  1 to 16 accounts, two bytes each, high byte first; they are only read. A repeat counts as one more and changes no answer.
- *   answer, answer_len      where the answer of C to G goes: a count, then of C to F that many numbers, rising, of G that many triangles of three accounts;
- *                           count, number and account each of two bytes, high byte first.
+ *   answer, answer_len      where the answer of C to G goes: a count, then of C to F that many numbers, of G that many triangles of three accounts;
+ *                           count, number and account each of two bytes, high byte first. C, D and E list groups by falling strength, then by more accounts
+ *                           held, then by least link; F lists links by rising number.
  *   window                  the number of the window that asks, 0 to 31.
  *   desk, desk_len          the desk record, which all windows share: its first FE_DESK bytes are 32 tallies in window order, each of four bytes, high byte first:
  *                           how many questions of that window were answered. Window w has the bytes from 4 * w on. Calls that are lent the same record take
@@ -150,11 +152,13 @@ fe_reply fe_strength(const uint8_t *index, size_t index_len, uint32_t a, uint32_
  * Refused by 13, 7, 9 (any of the four accounts), 11 (either pair), 12, in this order. */
 fe_reply fe_joined(const uint8_t *index, size_t index_len, uint32_t a, uint32_t b, uint32_t c, uint32_t d, uint32_t window, uint8_t *desk, size_t desk_len);
 
-/* C. The numbers of the groups at k that hold all the accounts; their strength may be above k. Refused by 13, 7, 8, 9, 10, 12, in this order. */
+/* C. The numbers of the groups at k that hold all the accounts; their strength may be above k, and the stronger come first. Refused by 13, 7, 8, 9, 10, 12, in this
+ * order. */
 fe_reply fe_groups_at(const uint8_t *index, size_t index_len, const uint8_t *accounts, size_t accounts_len, uint32_t k, uint8_t *answer, size_t answer_len,
                       uint32_t window, uint8_t *desk, size_t desk_len);
 
-/* D. Of the stored groups that hold all the accounts, the numbers of those with the greatest strength. Refused by 13, 7, 8, 9, 12, in this order. */
+/* D. Of the stored groups that hold all the accounts, the numbers of those with the greatest strength, the one with the most accounts first. Refused by 13, 7, 8, 9,
+ * 12, in this order. */
 fe_reply fe_strongest_groups(const uint8_t *index, size_t index_len, const uint8_t *accounts, size_t accounts_len, uint8_t *answer, size_t answer_len,
                              uint32_t window, uint8_t *desk, size_t desk_len);
 
@@ -162,7 +166,7 @@ fe_reply fe_strongest_groups(const uint8_t *index, size_t index_len, const uint8
 fe_reply fe_all_groups(const uint8_t *index, size_t index_len, const uint8_t *accounts, size_t accounts_len, uint8_t *answer, size_t answer_len,
                        uint32_t window, uint8_t *desk, size_t desk_len);
 
-/* F. The numbers of the links of the group at k with the link a-b; none if its strength is below k. Refused by 13, 7, 9, 10, 11, 12, in this order. */
+/* F. The numbers of the links of the group at k with the link a-b, rising; none if its strength is below k. Refused by 13, 7, 9, 10, 11, 12, in this order. */
 fe_reply fe_group_links(const uint8_t *index, size_t index_len, uint32_t a, uint32_t b, uint32_t k, uint8_t *answer, size_t answer_len,
                         uint32_t window, uint8_t *desk, size_t desk_len);
 

@@ -1,5 +1,5 @@
 /* A host of the terminal: builds the index of card B of document 01, asks every question on it from two windows, meets every refusal, shows which window was
- * answered how often, and then plays an afternoon in which links come and go. After `rt staticlib terminal`:
+ * answered how often, plays an afternoon in which links come and go, and reads to a customer the larger of two parties. After `rt staticlib terminal`:
  *
  *     gcc -std=c11 -O2 -Wall -Wextra -Werror -pedantic -Iinclude examples/host/host.c target/staticlib/libterminal.a -o target/host && target/host
  *
@@ -18,11 +18,19 @@ static const uint8_t CARD[] = {
     5,
 };
 
+/* Another one: 6 accounts, 8 links; account 2 is in two parties of strength 3, with 0 and 1, and with 3, 4 and 5. */
+static const uint8_t PARTIES[] = {
+    1, 0, 6, 0, 8,
+    6, 0, 0, 0, 1,  6, 0, 0, 0, 2,  6, 0, 1, 0, 2,
+    6, 0, 2, 0, 3,  6, 0, 2, 0, 4,  6, 0, 3, 0, 4,  6, 0, 3, 0, 5,  6, 0, 4, 0, 5,
+    5,
+};
+
 /* The two windows that ask here, of the 32 that share the desk record. */
 enum { PAYOUTS = 3, DISPUTES = 17 };
 
 /* Accounts as questions name them, two bytes each. */
-static const uint8_t THREE[] = {0, 3}, TWO_AND_FOUR[] = {0, 2, 0, 4}, SEVEN[] = {0, 7};
+static const uint8_t TWO[] = {0, 2}, THREE[] = {0, 3}, TWO_AND_FOUR[] = {0, 2, 0, 4}, SEVEN[] = {0, 7};
 
 /* Two buffers for the index: a change goes from the one in use into the other. */
 static uint8_t buffers[2][FE_INDEX_MAX], *index_bytes = buffers[0], *second = buffers[1];
@@ -157,6 +165,25 @@ static void afternoon(void) {
     tallies();
 }
 
+/* Both parties of account 2 have strength 3, so the larger comes first, though its number is higher: it is the one to read to the customer. The links of a group are those
+ * of F with a link whose record names the group, at that link's strength. */
+static void larger_party(void) {
+    fe_reply r = fe_build(PARTIES, sizeof PARTIES, index_bytes, FE_INDEX_MAX);
+    if (r.refusal) {
+        refused(r);
+        return;
+    }
+    length = r.value;
+    printf("Another card: %u accounts, %u links, an index of %zu bytes.\n", two(index_bytes + 1), two(index_bytes + 3), length);
+    r = fe_strongest_groups(index_bytes, length, TWO, sizeof TWO, answer, sizeof answer, PAYOUTS, desk, sizeof desk);
+    list("Strongest groups with account 2", r, 0);
+    if (r.refusal) return;
+    const uint8_t *link = index_bytes + 5;
+    while (two(link + 6) != two(answer + 2)) link += 8;
+    r = fe_group_links(index_bytes, length, two(link + 1), two(link + 3), link[5], answer, sizeof answer, PAYOUTS, desk, sizeof desk);
+    list("The first of them is read", r, 1);
+}
+
 int main(void) {
     fe_reply r = fe_build(CARD, sizeof CARD, index_bytes, FE_INDEX_MAX);
     if (r.refusal) {
@@ -207,5 +234,6 @@ int main(void) {
     tallies();
 
     afternoon();
+    larger_party();
     return 0;
 }
