@@ -8,14 +8,14 @@ use Prim.Native.Nat.{ℕ, zero, suc, _+_, _≤_, _<_}
 use native.Mathlib.Omega.{arith}
 use lib.Dec.{eqb, ltb, leb}
 use lib.ListN.{length, length-append, length-map}
-use borrow.Author.Tests.{eqb-false, leb-false, ltb-false}
+use borrow.Author.Tests.{eqb-true, eqb-false, leb-false, ltb-false, not-false}
 use Rattle.truss.specs.Limits.{maxAccounts, maxLinks}
 use Rattle.truss.specs.Graph.{Link, Pair, link, linkOf, linksOf, linkBefore, graphOf, member, linkNumber}
 use Rattle.truss.specs.Refusal.{Checked, passed, refused, refuseIf, andThen}
-use Rattle.truss.specs.Record.{kindEnd, kindPlainLink, kindHead, fieldAt, whole}
+use Rattle.truss.specs.Record.{kindEnd, kindPlainLink, kindHead, bodyLength, byteAt, fieldAt, holdsBody, whole}
 use Rattle.truss.specs.LinksFile.{Head, Links, accepted, readHead, readPairs, readLinks}
 use Rattle.laws.proofs.Proper.{Proper}
-use Rattle.laws.proofs.Lists.{true-not-false, or-left-false, or-right-false}
+use Rattle.laws.proofs.Lists.{true-not-false, and-left, or-left-false, or-right-false}
 use Rattle.laws.proofs.Members.{Sorted, map-in, in-map, sort-in, in-sort, member-in, in-member}
 use Rattle.laws.proofs.Sets.{sorted-append}
 use Rattle.laws.proofs.Ordering.{Distinct, sort-distinct, position-of, sort-length}
@@ -119,6 +119,12 @@ pub record GoodHead (b : List ℕ) (h : Head) : Type 0 where
   pub some-account : 0 < h .n
   pub accounts : h .n ≤ maxAccounts
   pub links : h .m ≤ maxLinks
+
+-- it begins with the kind that is looked for
+pub head-kind : (kind : ℕ) (b : List ℕ) (h : Head) → readHead kind b ≡ passed h → byteAt b 0 ≡ kind
+unfolding readHead
+head-kind kind b h q =
+    eqb-true (byteAt b 0) kind (and-left (eqb (byteAt b 0) kind) (holdsBody (bodyLength kind) b 0) (not-false (whole b 0 kind) (not-refused (not (whole b 0 kind)) 1 0 h _ q .0)))
 
 pub head-good : (kind : ℕ) (b : List ℕ) (h : Head) → readHead kind b ≡ passed h → GoodHead b h
 unfolding readHead

@@ -67,12 +67,8 @@ module _ (G : Graph) (proper : Proper G) (accounts : G .n ≤ 65536) (few-links 
           rw q (record {
             lo-fits = omega (arith, proper .ordered (linkAt G i) e, proper .below (linkAt G i) e);
             hi-fits = omega (arith, proper .below (linkAt G i) e);
-            group-fits = own (test (leb minLevel (strength G (linkAt G i))));
+            group-fits = le-fits (number-le _ (groups G) few);
           })
-        where
-          own : (leb minLevel (strength G (linkAt G i)) ≡ true) ⊎ (leb minLevel (strength G (linkAt G i)) ≡ false) → linkRow G (groups G) i .group < 65536
-          own (inl c) = rw c (le-fits (number-le _ (groups G) few))
-          own (inr c) = rw c (omega arith)
 
   join-fits : (x : Join) → In x (index G .joins) → JoinFits x
   unfolding index forest

@@ -10,7 +10,7 @@ use native.Mathlib.Nat.{le-antisymm, le-refl, div-div-eq-div-mul, div-add-mod'}
 use native.Mathlib.Omega.{arith}
 use lib.Dec.{eqb, ltb, leb}
 use lib.ListN.{length, getD}
-use borrow.Author.Tests.{ne-eqb, eqb-false, leb-true, leb-false, le-leb, lt-leb, lt-ltb, le-ltb, ltb-true, ltb-false}
+use borrow.Author.Tests.{ne-eqb, eqb-false, leb-true, le-leb, lt-leb, lt-ltb, le-ltb, ltb-true, ltb-false}
 use Rattle.truss.specs.Limits.{minLevel, maxLevel, maxNamed, maxTally, windows}
 use Rattle.truss.specs.Lists.{any, all, range, concatMap}
 use Rattle.truss.specs.Graph.{Link, Graph, linkAt, ends, member}
@@ -24,6 +24,7 @@ use Rattle.truss.specs.Call.{answerBytes, checkedAnswer, settle, ask, tallyByte
 use Rattle.truss.specs.Windows.{refusedBy}
 use Rattle.truss.specs.Order.{WellCounted, Level}
 use Rattle.laws.proofs.Proper.{Proper}
+use Rattle.laws.proofs.Peeling.{strength-at-least-2}
 use Rattle.laws.proofs.Lists.{test, bool-same, both, true-not-false, and-left, and-right, or-left-false, or-right-false}
 use Rattle.laws.proofs.Numbers.{less-or-not}
 use Rattle.laws.proofs.Members.{filter-in, in-filter, filter-none, range-in, in-range, first-in, any-in, in-any}
@@ -276,10 +277,12 @@ module _ (G : Graph) (vs : List ℕ) where
   unfolding allHolding
   E-is g = ((λ m. numbers-in (holdsAll G vs) (groups G) m), (λ r. in-numbers (holdsAll G vs) (groups G) (r .0) (r .1)))
 
--- ---- B: "a link with itself gives its strength, or 0 at strength 2"
+-- ---- B: "a link with itself gives its strength"
 
-pub joined-itself : (G : Graph) → Proper G → (e : Link) → member (G .links) e ≡ true → joinedUpTo G e e ≡ cond (leb minLevel (strength G e)) (strength G e) 0
-joined-itself G proper e me = go (test (leb minLevel (strength G e)))
+pub joined-itself : (G : Graph) → Proper G → (e : Link) → member (G .links) e ≡ true → joinedUpTo G e e ≡ strength G e
+joined-itself G proper e me =
+    le-antisymm top
+    (joined-up-to-max G proper e e me me (strength G e) (strength-at-least-2 G e me) (record { strong = strength-at-least G (strength G e) e me (le-refl (strength G e)); joined = inl refl }))
   where
     -- no level above the strength
     top : joinedUpTo G e e ≤ strength G e
@@ -288,17 +291,6 @@ joined-itself G proper e me = go (test (leb minLevel (strength G e)))
         at : (ltb 0 (joinedUpTo G e e) ≡ true) ⊎ (ltb 0 (joinedUpTo G e e) ≡ false) → joinedUpTo G e e ≤ strength G e
         at (inl c) = at-least-strength G (joinedUpTo G e e) e (joined-up-to-is G proper e e me me (ltb-true 0 (joinedUpTo G e e) c) .1 .strong)
         at (inr c) = omega (arith, ltb-false 0 (joinedUpTo G e e) c)
-
-    go : (leb minLevel (strength G e) ≡ true) ⊎ (leb minLevel (strength G e) ≡ false) → joinedUpTo G e e ≡ cond (leb minLevel (strength G e)) (strength G e) 0
-    go (inl c) =
-        rw c
-        (le-antisymm top
-        (joined-up-to-max G proper e e me me (strength G e) (leb-true minLevel (strength G e) c) (record { strong = strength-at-least G (strength G e) e me (le-refl (strength G e)); joined = inl refl })))
-    go (inr c) = rw c (at (test (ltb 0 (joinedUpTo G e e))))
-      where
-        at : (ltb 0 (joinedUpTo G e e) ≡ true) ⊎ (ltb 0 (joinedUpTo G e e) ≡ false) → joinedUpTo G e e ≡ 0
-        at (inl d) = absurd (omega (arith, top, leb-false minLevel (strength G e) c, joined-up-to-is G proper e e me me (ltb-true 0 (joinedUpTo G e e) d) .0))
-        at (inr d) = omega (arith, ltb-false 0 (joinedUpTo G e e) d)
 
 -- ---- a tally: four bytes, high byte first, read back
 

@@ -12,7 +12,7 @@ use lib.ListN.{length, getD, length-append}
 use lib.Seq.{take-at, drop-at}
 use Rattle.truss.specs.Lists.{filter, concatMap}
 use Rattle.truss.specs.Forest.{Join}
-use Rattle.truss.specs.Record.{Record, kindHead, kindStrongLink, kindJoin, kindGroup, kindEnd, bodyLength, field, fromBytes, endBytes, cut, records, ofKind}
+use Rattle.truss.specs.Record.{Record, kindIndexHead, kindStrongLink, kindJoin, kindGroup, kindEnd, bodyLength, field, fromBytes, endBytes, cut, records, ofKind}
 use Rattle.truss.specs.Index.{Index, LinkRow, GroupRow, linkBytes, joinBytes, groupBytes, encode, readLinkRow, readJoin, readGroupRow, decode}
 
 -- ---- a two-byte field
@@ -119,7 +119,7 @@ module _ (x : Index) where
   groupRec r = record { kind = kindGroup; body = groupBody r }
 
   headRec : Record
-  headRec = record { kind = kindHead; body = field (x .n) ++ field (x .m) }
+  headRec = record { kind = kindIndexHead; body = field (x .n) ++ field (x .m) }
 
   endRec : Record
   endRec = record { kind = kindEnd; body = [] }

@@ -10,14 +10,14 @@ use native.Mathlib.Nat.{le-refl}
 use native.Mathlib.Omega.{arith}
 use lib.Dec.{eqb, ltb}
 use lib.ListN.{getD}
-use borrow.Author.Tests.{eqb-true, eqb-false, ltb-true, ltb-false, lt-leb}
+use borrow.Author.Tests.{eqb-true, eqb-false, ltb-true, ltb-false}
 use Rattle.truss.specs.Limits.{minLevel, noGroup}
 use Rattle.truss.specs.Lists.{filter, range}
 use Rattle.truss.specs.Graph.{Graph, linkNumber, linkAt}
 use Rattle.truss.specs.Strength.{strength}
 use Rattle.truss.specs.Forest.{Join, allJoins, singletons, sameComponent, merge, components}
 use Rattle.truss.specs.Group.{Group, leastLink, labelsAt, groupAt, groups}
-use Rattle.truss.specs.Index.{LinkRow, index, linkRow}
+use Rattle.truss.specs.Index.{index}
 use Rattle.truss.specs.Stored.{rowAt, groupRowAt}
 use Rattle.laws.proofs.Lists.{test}
 use Rattle.laws.proofs.Members.{filter-in}
@@ -28,7 +28,7 @@ use Rattle.laws.proofs.Size.{Roots, singletons-roots, merge-roots}
 use Rattle.laws.proofs.Groups.{size, strengthAt, groupAt-eq, in-group, group-self, group-rebase}
 use Rattle.laws.proofs.Stored.{noSuchGroup, groupCount, stored, stored-at, stored-in, stored-distinct, stored-exact, few-groups}
 use Rattle.laws.proofs.GroupOrder.{Before, stronger, earlier, groups-sorted}
-use Rattle.laws.proofs.Tree.{own, own-is, own-strength, number-is, is-number, row-at, parent-next, parent-none}
+use Rattle.laws.proofs.Tree.{own, own-is, own-strength, number-is, is-number, parent-next, parent-none}
 use Rattle.laws.proofs.Sides.{InOrder, at-link, join-of, JoinOf, first-two, outer-two, last-two}
 
 -- ---- labels are least links
@@ -179,7 +179,7 @@ module _ (G : Graph) (o : InOrder G) where
     abbrev pub ownOf : ℕ → ℕ
     ownOf i = rowAt (index G) i .group
 
-    own-row : (i : ℕ) → i < size G → ownOf i ≡ own G (o .proper) fits i
+    pub own-row : (i : ℕ) → i < size G → ownOf i ≡ own G (o .proper) fits i
     own-row i l =
         let n = is-number G (o .proper) fits (linkAt G i) (at-link G o i l) in
         ap (λ (z : ℕ). rowAt (index G) z .group) (sym (o .proper .numbered i l))
@@ -194,10 +194,6 @@ module _ (G : Graph) (o : InOrder G) where
           strength-is = ap (λ (z : ℕ). stored G z .strength) q ∙ own-strength G (o .proper) fits i l s;
           least-is = ap (λ (z : ℕ). leastLink (stored G z)) q ∙ ap (λ (xs : List ℕ). getD xs 0 0) (a .1) ∙ group-least (strengthAt G i) i l (le-refl (strengthAt G i));
         }
-
-    pub own-none : (i : ℕ) → i < size G → strengthAt G i < minLevel → ownOf i ≡ noGroup
-    unfolding linkRow
-    own-none i l s = ap (λ (r : LinkRow). r .group) (row-at G (o .proper) fits i l) ∙ rw (lt-leb minLevel (strengthAt G i) s)
 
     -- each marked root has a stored group
     pub marked-stored : {k r : ℕ} → minLevel ≤ k → Marked k r → (g : ℕ) × IsGroup k r g
@@ -276,8 +272,8 @@ module _ (G : Graph) (o : InOrder G) where
   pub stored-most : (g : ℕ) → g < groupCount G → stored G g .strength ≤ 2 + G .n
   stored-most g l = let M = stored-marked g l in omega (arith, M .strength-is, strength-at-most G (linkAt G (M .link)))
 
-  pub stored-three : (g : ℕ) → g < groupCount G → minLevel ≤ stored G g .strength
-  stored-three g l = stored-at G g l .level
+  pub stored-level : (g : ℕ) → g < groupCount G → minLevel ≤ stored G g .strength
+  stored-level g l = stored-at G g l .level
 
   pub counted-first : (k : ℕ) → 2 + G .n < k → Counted k 0 0
   counted-first k l = record { within = omega arith; before = λ g a. absurd (omega arith); after = λ g a b. weaker-than (omega (arith, l, stored-most g b)) }

@@ -50,10 +50,11 @@ pub mod InOrder
 pub mod Kruskal
 pub mod Weights
 pub mod GroupPlaces
--- the shortest chain between two links (question G); the triangles that hold a link (question A); the order in which groups are listed (questions C, D and E)
+-- the shortest chain between two links (question G); the triangles that hold a link (question A); lone links; the order in which groups are listed (questions C, D and E)
 pub mod Shortest
-pub mod ShortestRoom
 pub mod Support
+pub mod Lone
+pub mod ShortestRoom
 pub mod Listed
 -- tallies over a run of questions; the window, the record as bytes
 pub mod Run

@@ -5,7 +5,7 @@ use mathlib.Core.Bool.{Bool, true, false, cond, not, _&&_, _||_}
 use mathlib.Core.List.{List, [], _∷_, map}
 use mathlib.Core.List.{List·Memᴰ as In, List·Memᴰ·head as here, List·Memᴰ·tail as there, List·Memᴰ·not-nil as in-nil, List·Memᴰ·cases-cons as in-cons}
 use Prim.Native.Nat.{ℕ, zero, suc, _+_, _-_, _≤_, _<_}
-use native.Mathlib.Nat.{le-antisymm}
+use native.Mathlib.Nat.{le-antisymm, le-refl}
 use native.Mathlib.Omega.{arith}
 use lib.Dec.{eqb, ltb, leb}
 use lib.ListN.{length, getD}
@@ -18,10 +18,11 @@ use Rattle.truss.specs.Shortest.{IsChain, one-triangle, and-on, triangleBefore,
 use Rattle.truss.specs.Ways.{FirstHolding}
 use Rattle.laws.proofs.Lists.{test, true-not-false, filter-length, both, and-left, and-right, or-cases, or-left-false, or-right-false}
 use Rattle.laws.proofs.Numbers.{same-or-not, less-or-not}
-use Rattle.laws.proofs.Members.{Sorted, filter-in, in-filter, any-in, in-any, concatMap-in, in-concatMap, map-in, in-range, range-length, range-at, in-getD, position-lt, position-passes, member-in, in-member}
+use Rattle.laws.proofs.Members.{Sorted, filter-in, in-filter, any-in, in-any, concatMap-in, in-concatMap, map-in, in-range, range-length, range-at, position-lt, position-passes, member-in, in-member}
 use Rattle.laws.proofs.Sets.{sorted-of}
 use Rattle.laws.proofs.Stored.{filter-sorted}
 use Rattle.laws.proofs.Chains.{strong-of-weight, weight-of-strong, in-strong-triangle, joined-first}
+use Rattle.laws.proofs.Tree.{strong-down}
 use Rattle.laws.proofs.Connected.{triangles-in, in-triangles, has-member}
 use Rattle.laws.proofs.Bound.{filter-fewer}
 use Rattle.laws.proofs.Groups.{size}
@@ -630,14 +631,18 @@ module _ (G : Graph) (o : InOrder G) (k : ℕ) (e f : Link) where
     (λ n. of-none G o k f e (λ us c. n (chain-joined c))),
   )
 
--- "A link with itself gives one triangle if its strength reaches k."
+-- "A link with itself gives one triangle if its strength reaches k", but for a link of strength 2.
 module _ (G : Graph) (o : InOrder G) (k : ℕ) (e : Link) where
-  pub shortest-itself : 3 ≤ k → AtLeast G k e → FirstHolding G k e (shortestChain G k e e)
+  pub shortest-itself : AtLeast G 3 e → AtLeast G k e → FirstHolding G k e (shortestChain G k e e)
   unfolding chainBefore
   shortest-itself three s = at (shortestChain G k e e) (shortest-is G o k e e (Rattle.truss.specs.Chain.one-triangle (w .0) (w .1) (w .2) (w .2)))
     where
       w : (t : Triangle) × StrongTriangle G k t × Has t e
-      w = in-strong-triangle G k (o .proper) three e s
+      w = in-triangle (less-or-not k 3)
+        where
+          in-triangle : (k < 3) ⊎ (3 ≤ k) → (t : Triangle) × StrongTriangle G k t × Has t e
+          in-triangle (inl l) = let (t, u, h) = in-strong-triangle G 3 (o .proper) (le-refl 3) e three in (t, strong-down G k 3 t (omega (arith, l)) u, h)
+          in-triangle (inr l) = in-strong-triangle G k (o .proper) l e s
 
       begins : (t : Triangle) → IsChain G k e e (t ∷ []) → StrongTriangle G k t × Has t e
       begins t (one-triangle u p q r) = (p, q)

@@ -28,6 +28,7 @@ use Rattle.laws.proofs.Size.{concatMap-length}
 use Rattle.laws.proofs.Accepted.{read-named, graph-size}
 use Rattle.laws.proofs.InOrder.{graph-in-order}
 use Rattle.laws.proofs.Sides.{InOrder}
+use Rattle.laws.proofs.Lone.{one-case}
 use Rattle.laws.proofs.Shortest.{triangle-is, side-has, strong-triangles-in, shortest-is, shortest-unique, shortest-none, shortest-itself, shortest-itself-none}
 
 -- ---- two triangles with two links in common are one
@@ -342,6 +343,7 @@ ways file n ps h k e f =
       none = shortest-none (graphOf n ps) o k e f;
       itself = shortest-itself (graphOf n ps) o k e;
       itself-none = shortest-itself-none (graphOf n ps) o k e;
+      one-case = one-case (graphOf n ps) o k e f;
       rising = λ t m. let r = chain-rises (graphOf n ps) o k e f t m in (r .ab, r .bc);
       room = chain-room (graphOf n ps) o (omega (arith, graph-size n ps, N .links)) k e f;
     }

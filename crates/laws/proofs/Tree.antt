@@ -12,7 +12,7 @@ use lib.ListN.{length, getD, length-map}
 use borrow.Author.Tests.{eqb-true, eqb-false, leb-true, leb-false, le-leb, ltb-true, ltb-false, lt-ltb, not-true}
 use Rattle.truss.specs.Limits.{minLevel, noGroup}
 use Rattle.truss.specs.Lists.{filter, any, all, range, position, sameList}
-use Rattle.truss.specs.Graph.{Link, Graph, linkAt, linkNumber, member}
+use Rattle.truss.specs.Graph.{Link, Graph, link, linkAt, linkNumber, member}
 use Rattle.truss.specs.Strength.{strength}
 use Rattle.truss.specs.Chain.{Joined, one-triangle, and-on, StrongTriangle, AtLeast}
 use Rattle.truss.specs.Forest.{sameComponent}
@@ -22,7 +22,8 @@ use Rattle.truss.specs.Stored.{rowAt, groupRowAt, IsNumber, Leads, TreeHolds}
 use Rattle.laws.proofs.Proper.{Proper}
 use Rattle.truss.specs.Stored.Leads.{here as arrived, up}
 use Rattle.laws.proofs.Lists.{test, true-not-false, and-left, and-right, both, or-cases}
-use Rattle.laws.proofs.Members.{filter-in, in-filter, in-range, range-length, number-lt, link-of-number, in-any, getD-in, position-lt, position-passes}
+use Rattle.laws.proofs.Members.{filter-in, in-filter, in-range, range-length, number-lt, link-of-number, in-any, in-member, getD-in, position-lt, position-passes}
+use Rattle.laws.proofs.Peeling.{strength-at-least-2}
 use Rattle.laws.proofs.Chains.{joined-first, at-least-strength}
 use Rattle.laws.proofs.Connected.{same-joined, joined-same}
 use Rattle.laws.proofs.Sets.{all-in, in-all, filter-sub-whole, filter-sub-length, contains-in, in-contains, same-list-eq, eq-same-list, map-range-at, map-at}
@@ -147,7 +148,7 @@ module _ (G : Graph) (proper : Proper G) (fits : size G ≤ noGroup) where
 
   pub own-is : (i : ℕ) → i < size G → minLevel ≤ strengthAt G i → (own i < groupCount G) × (stored G (own i) .members ≡ groupAt G (strengthAt G i) i)
   unfolding own linkRow groupOf
-  own-is i l s = rw (le-leb minLevel (strengthAt G i) s) (lt, same-list-eq _ _ (group-number-passes test-at (groups G) few lt))
+  own-is i l s = (lt, same-list-eq _ _ (group-number-passes test-at (groups G) few lt))
     where
       test-at : Group → Bool
       test-at h = sameList (h .members) (groupAt G (strengthAt G i) i)
@@ -172,13 +173,12 @@ module _ (G : Graph) (proper : Proper G) (fits : size G ≤ noGroup) where
           let io : In i (stored G (own i) .members) = rw (o .1) (group-self G (strengthAt G i) i l (le-refl (strengthAt G i))) in
           omega (arith, big, e, stored-in G (own i) (o .0) io .1)
 
-  pub own-strong : (i : ℕ) → own i < groupCount G → minLevel ≤ strengthAt G i
-  unfolding own linkRow
-  own-strong i l = go (test (leb minLevel (strengthAt G i)))
-    where
-      go : (leb minLevel (strengthAt G i) ≡ true) ⊎ (leb minLevel (strengthAt G i) ≡ false) → minLevel ≤ strengthAt G i
-      go (inl c) = leb-true minLevel (strengthAt G i) c
-      go (inr c) = let l′ : noGroup < groupCount G = rw c at l in absurd (omega (arith, few))
+  -- every link has a group of its own strength: "no strong link carries FFFF"
+  pub own-strong : (i : ℕ) → i < size G → minLevel ≤ strengthAt G i
+  own-strong i l = strength-at-least-2 G (linkAt G i) (in-member (G .links) (getD-in (link 0 0) (G .links) i l))
+
+  pub own-group-named : (i : ℕ) → i < size G → own i < groupCount G
+  own-group-named i l = own-is i l (own-strong i l) .0
 
   -- ---- climbing
 
@@ -387,7 +387,7 @@ module _ (G : Graph) (proper : Proper G) (fits : size G ≤ noGroup) where
   -- and to no other
   pub own-holds : (i h : ℕ) → i < size G → Leads (index G) (own i) h → In i (stored G h .members)
   own-holds i h l leads =
-      let s = own-strong i (leads-first leads) in
+      let s = own-strong i l in
       leads-holds leads i (rw (own-is i l s .1) (group-self G (strengthAt G i) i l (le-refl (strengthAt G i))))
 
   pub tree-joined : (k : ℕ) (e f : Link) → e ≢ f → TreeHolds (index G) k e f → Joined G k e f

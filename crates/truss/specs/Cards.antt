@@ -4,7 +4,7 @@ use Prim.Native.Nat.{ℕ}
 use lib.ListN.{replicate}
 use Rattle.truss.specs.Lists.{concatMap}
 use Rattle.truss.specs.Graph.{Pair, Graph, Triangle, graphOf}
-use Rattle.truss.specs.Record.{kindHead, field, headBytes, endBytes}
+use Rattle.truss.specs.Record.{kindHead, kindIndexHead, field, headBytes, endBytes}
 use Rattle.truss.specs.LinksFile.{pairBytes}
 use Rattle.truss.specs.Index.{Index, indexBytes}
 
@@ -22,6 +22,10 @@ file n m ps end = headBytes kindHead n m ++ (concatMap pairBytes ps ++ end)
 -- a head with no links, and the end
 unfoldable pub headOnly : ℕ → List ℕ
 headOnly n = headBytes kindHead n 0 ++ endBytes
+
+-- the index of no links
+unfoldable pub indexOnly : ℕ → List ℕ
+indexOnly n = headBytes kindIndexHead n 0 ++ endBytes
 
 -- accounts as a question is lent them
 unfoldable pub accounts : List ℕ → List ℕ
@@ -46,21 +50,22 @@ unfoldable pub graphA : Graph
 unfolding pairsA graphOf
 graphA = graphOf 5 pairsA
 
--- "index 84:"
+-- "that card's index becomes 90 bytes"
 unfoldable pub indexA : List ℕ
 indexA =
-    0x01 ∷ 0x00 ∷ 0x05 ∷ 0x00 ∷ 0x06
+    0x07 ∷ 0x00 ∷ 0x05 ∷ 0x00 ∷ 0x06
     ∷ 0x02 ∷ 0x00 ∷ 0x00 ∷ 0x00 ∷ 0x01 ∷ 0x03 ∷ 0x00 ∷ 0x00
     ∷ 0x02 ∷ 0x00 ∷ 0x00 ∷ 0x00 ∷ 0x02 ∷ 0x03 ∷ 0x00 ∷ 0x00
     ∷ 0x02 ∷ 0x00 ∷ 0x01 ∷ 0x00 ∷ 0x02 ∷ 0x03 ∷ 0x00 ∷ 0x00
     ∷ 0x02 ∷ 0x00 ∷ 0x01 ∷ 0x00 ∷ 0x03 ∷ 0x03 ∷ 0x00 ∷ 0x00
     ∷ 0x02 ∷ 0x00 ∷ 0x02 ∷ 0x00 ∷ 0x03 ∷ 0x03 ∷ 0x00 ∷ 0x00
-    ∷ 0x02 ∷ 0x00 ∷ 0x03 ∷ 0x00 ∷ 0x04 ∷ 0x02 ∷ 0xFF ∷ 0xFF
+    ∷ 0x02 ∷ 0x00 ∷ 0x03 ∷ 0x00 ∷ 0x04 ∷ 0x02 ∷ 0x00 ∷ 0x01
     ∷ 0x03 ∷ 0x00 ∷ 0x00 ∷ 0x00 ∷ 0x01 ∷ 0x03
     ∷ 0x03 ∷ 0x00 ∷ 0x00 ∷ 0x00 ∷ 0x02 ∷ 0x03
     ∷ 0x03 ∷ 0x00 ∷ 0x02 ∷ 0x00 ∷ 0x03 ∷ 0x03
     ∷ 0x03 ∷ 0x00 ∷ 0x02 ∷ 0x00 ∷ 0x04 ∷ 0x03
     ∷ 0x04 ∷ 0xFF ∷ 0xFF ∷ 0x03 ∷ 0x00 ∷ 0x00
+    ∷ 0x04 ∷ 0xFF ∷ 0xFF ∷ 0x02 ∷ 0x00 ∷ 0x05
     ∷ 0x05 ∷ []
 
 -- Card B: "n = 7; all pairs of {0,1,2,3}, all pairs of {3,4,5,6}, and 2-4"
@@ -168,6 +173,16 @@ fan =
     (pair 0 1 ∷ pair 0 2 ∷ pair 1 2 ∷ pair 0 3 ∷ pair 0 4 ∷ pair 3 4 ∷ pair 3 5 ∷ pair 4 5 ∷ pair 0 6 ∷ pair 0 7 ∷ pair 6 7
     ∷ pair 0 8 ∷ pair 0 9 ∷ pair 0 10 ∷ pair 8 9 ∷ pair 8 10 ∷ pair 9 10 ∷ [])
 
+-- three lone links: a path 0-1-2 of two that share account 1, and 3-4 apart from them
+unfoldable pub threeLone : Graph
+unfolding pair graphOf
+threeLone = graphOf 5 (pair 4 3 ∷ pair 1 2 ∷ pair 0 1 ∷ [])
+
+-- a lone link that is the first of all links, at one account of a triangle
+unfoldable pub loneFirst : Graph
+unfolding pair graphOf
+loneFirst = graphOf 4 (pair 1 2 ∷ pair 1 3 ∷ pair 2 3 ∷ pair 0 1 ∷ [])
+
 -- one triangle, and its index of 48 bytes
 unfoldable pub triangle : Graph
 unfolding pair graphOf
@@ -190,7 +205,7 @@ largeRows =
 
 unfoldable pub largeBytes : List ℕ
 largeBytes =
-    1 ∷ 2 ∷ 88 ∷ 1 ∷ 44
+    7 ∷ 2 ∷ 88 ∷ 1 ∷ 44
     ∷ 2 ∷ 1 ∷ 2 ∷ 3 ∷ 4 ∷ 5 ∷ 6 ∷ 7
     ∷ 3 ∷ 8 ∷ 9 ∷ 10 ∷ 11 ∷ 12
     ∷ 4 ∷ 13 ∷ 14 ∷ 15 ∷ 16 ∷ 17

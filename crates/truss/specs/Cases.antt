@@ -1,4 +1,4 @@
--- Worked cases of the definitions, held by computation. `Cases` is document 01's list marked P, with card A's bytes and card B's listing. What that
+-- Worked cases of the definitions, held by computation. `Cases` is document 01's list marked P as document 02 leaves it, with card A's bytes and card B's listing. What that
 -- list leaves open: `RuleCases` has the ties and the checks of a links file, `WindowCases` the checks of a question, `FieldCases` numbers above 255.
 -- The limits stand in Figures.
 use mathlib.Core.Path.{_≡_, refl}
@@ -23,13 +23,13 @@ use Rattle.truss.specs.Cards.{pair, file, headOnly, accounts, pairsA, pa
 -- ---- document 01, "Meetings on paper (P: proved)"
 
 pub record Cases : Type 0 where
-  one-account : indexBytes (graphOf 1 []) ≡ 1 ∷ 0 ∷ 1 ∷ 0 ∷ 0 ∷ 5 ∷ []
+  one-account : indexBytes (graphOf 1 []) ≡ 7 ∷ 0 ∷ 1 ∷ 0 ∷ 0 ∷ 5 ∷ []
   no-accounts : readLinks (headOnly 0) ≡ refuse 2 0
   too-many-accounts : readLinks (headOnly 1025) ≡ refuse 2 0
   A-two-triangles : support 5 (member (graphA .links)) (link 1 2) ≡ 2
   A-1-2 : answer graphA (ask-strength 1 2) ≡ passed (two-numbers 3 2)
   A-3-4 : answer graphA (ask-strength 4 3) ≡ passed (two-numbers 2 0)
-  A-3-4-itself : answer graphA (ask-joined 3 4 3 4) ≡ passed (number 0)
+  A-3-4-itself : answer graphA (ask-joined 3 4 3 4) ≡ passed (number 2)
   B-3-at-4 : answer graphB (ask-groups-at 4 (accounts (3 ∷ []))) ≡ passed (numbers (0 ∷ 1 ∷ []))
   B-2-4-at-4 : answer graphB (ask-groups-at 4 (accounts (2 ∷ 4 ∷ []))) ≡ passed (numbers [])
   B-2-4-at-3 : answer graphB (ask-groups-at 3 (accounts (2 ∷ 4 ∷ []))) ≡ passed (numbers (2 ∷ []))
@@ -37,11 +37,11 @@ pub record Cases : Type 0 where
   two-groups : groups bowTie ≡ record { strength = 3; members = 0 ∷ 1 ∷ 2 ∷ [] } ∷ record { strength = 3; members = 3 ∷ 4 ∷ 5 ∷ [] } ∷ []
   five-one-group : groups five ≡ record { strength = 5; members = 0 ∷ 1 ∷ 2 ∷ 3 ∷ 4 ∷ 5 ∷ 6 ∷ 7 ∷ 8 ∷ 9 ∷ [] } ∷ []
   five-at-3 : answer five (ask-groups-at 3 (accounts (0 ∷ 1 ∷ 2 ∷ 3 ∷ 4 ∷ []))) ≡ passed (numbers (0 ∷ []))
-  -- card A: "links file 36 bytes, index 84"
+  -- card A: "links file 36 bytes", "index becomes 90 bytes"
   A-file : readLinks (writeLinks 5 pairsA) ≡ accepted 5 pairsA
   A-file-length : length (writeLinks 5 pairsA) ≡ 36
   A-index : indexBytes graphA ≡ indexA
-  A-index-length : length indexA ≡ 84
+  A-index-length : length indexA ≡ 90
   A-any-order : indexBytes (graphOf 5 pairsA′) ≡ indexA
   A-read-back : readIndex indexA ≡ passed graphA
   -- card B: "The lister, given its index, prints all of" these four lines
@@ -113,11 +113,13 @@ pub record RuleCases : Type 0 where
   group-body : bodyLength 4 ≡ some 5
   end-body : bodyLength 5 ≡ some 0
   plain-link-body : bodyLength 6 ≡ some 4
-  unknown-kind-7 : bodyLength 7 ≡ none
+  index-head-body : bodyLength 7 ≡ some 4
+  unknown-kind-8 : bodyLength 8 ≡ none
   -- a links file: the head as 1, 2, 3
   empty-file : readLinks [] ≡ refuse 1 0
   cut-head : readLinks (1 ∷ 0 ∷ 5 ∷ []) ≡ refuse 1 0
   wrong-first-kind : readLinks (6 ∷ 0 ∷ 5 ∷ 0 ∷ 6 ∷ []) ≡ refuse 1 0
+  index-kind-first : readLinks (7 ∷ 0 ∷ 5 ∷ 0 ∷ 0 ∷ 5 ∷ []) ≡ refuse 1 0
   head-alone : readLinks (1 ∷ 0 ∷ 0 ∷ 0 ∷ 0 ∷ []) ≡ refuse 2 0
   kind-before-n : readLinks (6 ∷ 0 ∷ 0 ∷ 0 ∷ 0 ∷ []) ≡ refuse 1 0
   kind-before-m : readLinks (6 ∷ 0 ∷ 5 ∷ 255 ∷ 255 ∷ []) ≡ refuse 1 0
@@ -134,6 +136,7 @@ pub record RuleCases : Type 0 where
   cut-before-equal : readLinks (file 5 1 [] (6 ∷ 0 ∷ 0 ∷ 0 ∷ [])) ≡ refuse 1 5
   cut-before-again : readLinks (file 5 2 (pair 0 1 ∷ []) (6 ∷ 0 ∷ 1 ∷ 0 ∷ [])) ≡ refuse 1 10
   kind-before-high : readLinks (file 5 1 [] (2 ∷ 0 ∷ 9 ∷ 0 ∷ 9 ∷ 5 ∷ [])) ≡ refuse 1 5
+  index-kind-inside : readLinks (file 5 1 [] (7 ∷ 0 ∷ 0 ∷ 0 ∷ 1 ∷ 5 ∷ [])) ≡ refuse 1 5
   first-account-too-high : readLinks (file 5 1 (pair 5 4 ∷ []) (5 ∷ [])) ≡ refuse 4 5
   second-account-too-high : readLinks (file 5 2 (pair 0 1 ∷ pair 4 5 ∷ []) (5 ∷ [])) ≡ refuse 4 10
   high-before-equal : readLinks (file 5 1 (pair 5 5 ∷ []) (5 ∷ [])) ≡ refuse 4 5
@@ -147,12 +150,12 @@ pub record RuleCases : Type 0 where
   -- read back in index order, the lower account first
   read-order : readBack triangle ≡ file 3 3 (pair 0 1 ∷ pair 0 2 ∷ pair 1 2 ∷ []) (5 ∷ [])
   -- 7: an index that is cut, or altered in one byte (the strength of the triangle's group); at 0, whatever is wrong with the links that the bytes name
-  cut-index : readIndex (1 ∷ 0 ∷ 1 ∷ 0 ∷ 0 ∷ []) ≡ refuse 7 0
+  cut-index : readIndex (7 ∷ 0 ∷ 1 ∷ 0 ∷ 0 ∷ []) ≡ refuse 7 0
   altered-index : readIndex
-      (1 ∷ 0 ∷ 3 ∷ 0 ∷ 3 ∷ 2 ∷ 0 ∷ 0 ∷ 0 ∷ 1 ∷ 3 ∷ 0 ∷ 0 ∷ 2 ∷ 0 ∷ 0 ∷ 0 ∷ 2 ∷ 3 ∷ 0 ∷ 0 ∷ 2 ∷ 0 ∷ 1 ∷ 0 ∷ 2 ∷ 3 ∷ 0 ∷ 0
+      (7 ∷ 0 ∷ 3 ∷ 0 ∷ 3 ∷ 2 ∷ 0 ∷ 0 ∷ 0 ∷ 1 ∷ 3 ∷ 0 ∷ 0 ∷ 2 ∷ 0 ∷ 0 ∷ 0 ∷ 2 ∷ 3 ∷ 0 ∷ 0 ∷ 2 ∷ 0 ∷ 1 ∷ 0 ∷ 2 ∷ 3 ∷ 0 ∷ 0
       ∷ 3 ∷ 0 ∷ 0 ∷ 0 ∷ 1 ∷ 3 ∷ 3 ∷ 0 ∷ 0 ∷ 0 ∷ 2 ∷ 3 ∷ 4 ∷ 255 ∷ 255 ∷ 4 ∷ 0 ∷ 0 ∷ 5 ∷ [])
       ≡ refuse 7 0
-  no-index-place : readIndex (1 ∷ 0 ∷ 5 ∷ 0 ∷ 1 ∷ 2 ∷ 0 ∷ 3 ∷ 0 ∷ 3 ∷ 2 ∷ 255 ∷ 255 ∷ 5 ∷ []) ≡ refuse 7 0
+  no-index-place : readIndex (7 ∷ 0 ∷ 5 ∷ 0 ∷ 1 ∷ 2 ∷ 0 ∷ 3 ∷ 0 ∷ 3 ∷ 2 ∷ 0 ∷ 0 ∷ 4 ∷ 255 ∷ 255 ∷ 2 ∷ 0 ∷ 0 ∷ 5 ∷ []) ≡ refuse 7 0
   -- answers: an account in two groups, the strongest, k below the strength, nested links, a repeat, an account without links
   all-holding : answer nested (ask-all (accounts (0 ∷ 5 ∷ []))) ≡ passed (numbers (1 ∷ 2 ∷ []))
   strongest-holding : answer nested (ask-strongest (accounts (0 ∷ 5 ∷ []))) ≡ passed (numbers (1 ∷ []))
@@ -188,10 +191,12 @@ rule-cases = record {
   group-body = refl;
   end-body = refl;
   plain-link-body = refl;
-  unknown-kind-7 = refl;
+  index-head-body = refl;
+  unknown-kind-8 = refl;
   empty-file = refl;
   cut-head = refl;
   wrong-first-kind = refl;
+  index-kind-first = refl;
   head-alone = refl;
   kind-before-n = refl;
   kind-before-m = refl;
@@ -207,6 +212,7 @@ rule-cases = record {
   cut-before-equal = refl;
   cut-before-again = refl;
   kind-before-high = refl;
+  index-kind-inside = refl;
   first-account-too-high = refl;
   second-account-too-high = refl;
   high-before-equal = refl;
@@ -284,15 +290,15 @@ pub record WindowCases : Type 0 where
   F-no-link : answer nested (ask-links 3 5 6) ≡ refuse 11 0
   -- the order
   C-count-before-account : answer triangle (ask-groups-at 3 (0 ∷ 3 ∷ 0 ∷ [])) ≡ refuse 8 0
-  C-count-before-level : answer triangle (ask-groups-at 2 []) ≡ refuse 8 0
-  C-account-before-level : answer triangle (ask-groups-at 2 (accounts (3 ∷ []))) ≡ refuse 9 0
+  C-count-before-level : answer triangle (ask-groups-at 1 []) ≡ refuse 8 0
+  C-account-before-level : answer triangle (ask-groups-at 1 (accounts (3 ∷ []))) ≡ refuse 9 0
   C-account-before-high-level : answer triangle (ask-groups-at 65535 (accounts (3 ∷ []))) ≡ refuse 9 0
   D-count-before-account : answer triangle (ask-strongest (0 ∷ 3 ∷ 0 ∷ [])) ≡ refuse 8 0
   E-count-before-account : answer triangle (ask-all (0 ∷ 3 ∷ 0 ∷ [])) ≡ refuse 8 0
   B-account-before-link : answer nested (ask-joined 5 6 0 8) ≡ refuse 9 0
-  F-account-before-level : answer triangle (ask-links 2 0 3) ≡ refuse 9 0
+  F-account-before-level : answer triangle (ask-links 1 0 3) ≡ refuse 9 0
   F-account-before-high-level : answer triangle (ask-links 65535 3 0) ≡ refuse 9 0
-  F-level-before-link : answer nested (ask-links 2 5 6) ≡ refuse 10 0
+  F-level-before-link : answer nested (ask-links 1 5 6) ≡ refuse 10 0
   F-high-level-before-link : answer nested (ask-links 65535 5 6) ≡ refuse 10 0
 
 pub window-cases : WindowCases
@@ -360,8 +366,8 @@ pub record FieldCases : Type 0 where
   pair-written : pairBytes (pair 258 772) ≡ 6 ∷ 1 ∷ 2 ∷ 3 ∷ 4 ∷ []
   head-written : take 10 (writeLinks 600 (replicate 300 (pair 258 772))) ≡ 1 ∷ 2 ∷ 88 ∷ 1 ∷ 44 ∷ 6 ∷ 1 ∷ 2 ∷ 3 ∷ 4 ∷ []
   -- an index: n, m, accounts, links, groups
-  large-index : indexBytes (graphOf 600 []) ≡ 1 ∷ 2 ∷ 88 ∷ 0 ∷ 0 ∷ 5 ∷ []
-  large-index-read : readIndex (1 ∷ 2 ∷ 88 ∷ 0 ∷ 0 ∷ 5 ∷ []) ≡ passed (graphOf 600 [])
+  large-index : indexBytes (graphOf 600 []) ≡ 7 ∷ 2 ∷ 88 ∷ 0 ∷ 0 ∷ 5 ∷ []
+  large-index-read : readIndex (7 ∷ 2 ∷ 88 ∷ 0 ∷ 0 ∷ 5 ∷ []) ≡ passed (graphOf 600 [])
   index-written : encode largeRows ≡ largeBytes
   index-says : decode largeBytes ≡ largeRows
   -- accounts that are lent; counts and numbers that are answered

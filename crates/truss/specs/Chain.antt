@@ -17,13 +17,14 @@ pub record StrongTriangle (G : Graph) (k : ℕ) (t : Triangle) : Type 0 where
   pub ac-strong : AtLeast G k (sideAC t)
   pub bc-strong : AtLeast G k (sideBC t)
 
--- "Two links are joined at k, for k from 3 up, when a chain of one or more triangles of weight at least k runs from one holding the first to one
--- holding the second, neighbours in the chain sharing a link." There is no empty chain, so a link in no such triangle is not joined to itself.
+-- "Two links are joined at k .. when a chain of one or more triangles of weight at least k runs from one holding the first to one
+-- holding the second, neighbours in the chain sharing a link." There is no empty chain. At 2 different links are joined as at 3 (laws: joined-at-2).
 pub data Joined (G : Graph) (k : ℕ) : Link → Link → Type 0 where
   one-triangle : {e f : Link} (t : Triangle) → StrongTriangle G k t → Has t e → Has t f → Joined G k e f
   and-on : {e shared f : Link} (t : Triangle) → StrongTriangle G k t → Has t e → Has t shared → Joined G k shared f → Joined G k e f
 
--- "A group at k is a link of strength at least k with all links joined to it at k": f is in the group at k with e.
+-- "A group at k is a link of strength at least k with all links joined to it at k": f is in the group at k with e. "A link counts as joined to itself at every
+-- k up to its strength" (document 02), a lone link at 2 too: e and f count as joined at k just if f is in the group at k with e.
 pub record InGroup (G : Graph) (k : ℕ) (e f : Link) : Type 0 where
   pub strong : AtLeast G k e
   pub joined : (f ≡ e) ⊎ Joined G k e f

@@ -13,7 +13,7 @@ use Rattle.truss.specs.Call.{done}
 use Rattle.truss.specs.Change.{put-in, withdraw, withLink, withoutLink, altered, change}
 use Rattle.truss.specs.Windows.{refusedBy}
 use Rattle.truss.specs.Changes.{moved, Changes, none, one, Changed}
-use Rattle.truss.specs.Cards.{pair, headOnly, pairsA, graphA, indexA, indexB, indexT}
+use Rattle.truss.specs.Cards.{pair, indexOnly, pairsA, graphA, indexA, indexB, indexT}
 
 -- as many links as there may be, and one fewer; of no file, since they are all the same link
 unfoldable full : Graph
@@ -24,32 +24,34 @@ oneFewer = record { n = 3; links = replicate (maxLinks - 1) (link 0 1) }
 
 pub record ChangeCases : Type 0 where
   -- put in: the index of the altered links over the front of the buffer, the bytes after it stay; the accounts in either order; in its place, first, between and last
-  put-first : change (put-in 1 0) (headOnly 3) (replicate 15 9) ≡ record { reply = done 14; buffer = 1 ∷ 0 ∷ 3 ∷ 0 ∷ 1 ∷ 2 ∷ 0 ∷ 0 ∷ 0 ∷ 1 ∷ 2 ∷ 255 ∷ 255 ∷ 5 ∷ 9 ∷ [] }
-  put-exact : change (put-in 0 1) (headOnly 3) (replicate 14 9) ≡ record { reply = done 14; buffer = 1 ∷ 0 ∷ 3 ∷ 0 ∷ 1 ∷ 2 ∷ 0 ∷ 0 ∷ 0 ∷ 1 ∷ 2 ∷ 255 ∷ 255 ∷ 5 ∷ [] }
-  put-between : change (put-in 3 0) indexA (replicate 98 9) ≡ record { reply = done 98; buffer = indexBytes (graphOf 5 (pair 3 0 ∷ pairsA)) }
+  put-first : change (put-in 1 0) (indexOnly 3) (replicate 21 9)
+      ≡ record { reply = done 20; buffer = 7 ∷ 0 ∷ 3 ∷ 0 ∷ 1 ∷ 2 ∷ 0 ∷ 0 ∷ 0 ∷ 1 ∷ 2 ∷ 0 ∷ 0 ∷ 4 ∷ 255 ∷ 255 ∷ 2 ∷ 0 ∷ 0 ∷ 5 ∷ 9 ∷ [] }
+  put-exact : change (put-in 0 1) (indexOnly 3) (replicate 20 9)
+      ≡ record { reply = done 20; buffer = 7 ∷ 0 ∷ 3 ∷ 0 ∷ 1 ∷ 2 ∷ 0 ∷ 0 ∷ 0 ∷ 1 ∷ 2 ∷ 0 ∷ 0 ∷ 4 ∷ 255 ∷ 255 ∷ 2 ∷ 0 ∷ 0 ∷ 5 ∷ [] }
+  put-between : change (put-in 3 0) indexA (replicate 104 9) ≡ record { reply = done 104; buffer = indexBytes (graphOf 5 (pair 3 0 ∷ pairsA)) }
   put-before : withLink (withoutLink graphA (link 0 1)) (link 0 1) ≡ graphA
   put-after : withLink (withoutLink graphA (link 3 4)) (link 4 3) ≡ graphA
   put-lower-tied : withLink graphA (link 4 1) .links ≡ link 0 1 ∷ link 0 2 ∷ link 1 2 ∷ link 1 3 ∷ link 1 4 ∷ link 2 3 ∷ link 3 4 ∷ []
   -- withdrawn: the others stay in their order
-  withdraw-A : change (withdraw 2 1) indexA (replicate 47 9)
-      ≡ record { reply = done 46; buffer = indexBytes (graphOf 5 (pair 0 1 ∷ pair 0 2 ∷ pair 1 3 ∷ pair 2 3 ∷ pair 3 4 ∷ [])) ++ (9 ∷ []) }
+  withdraw-A : change (withdraw 2 1) indexA (replicate 77 9)
+      ≡ record { reply = done 76; buffer = indexBytes (graphOf 5 (pair 0 1 ∷ pair 0 2 ∷ pair 1 3 ∷ pair 2 3 ∷ pair 3 4 ∷ [])) ++ (9 ∷ []) }
   withdraw-first : withoutLink graphA (link 1 0) .links ≡ link 0 2 ∷ link 1 2 ∷ link 1 3 ∷ link 2 3 ∷ link 3 4 ∷ []
   withdraw-end : withoutLink graphA (link 4 3) .links ≡ link 0 1 ∷ link 0 2 ∷ link 1 2 ∷ link 1 3 ∷ link 2 3 ∷ []
-  withdraw-last : change (withdraw 0 1) (indexBytes (graphOf 3 (pair 0 1 ∷ []))) (replicate 7 9) ≡ record { reply = done 6; buffer = headOnly 3 ++ (9 ∷ []) }
-  put-and-withdraw : change (withdraw 0 3) (indexBytes (graphOf 5 (pair 3 0 ∷ pairsA))) (replicate 84 9) ≡ record { reply = done 84; buffer = indexA }
+  withdraw-last : change (withdraw 0 1) (indexBytes (graphOf 3 (pair 0 1 ∷ []))) (replicate 7 9) ≡ record { reply = done 6; buffer = indexOnly 3 ++ (9 ∷ []) }
+  put-and-withdraw : change (withdraw 0 3) (indexBytes (graphOf 5 (pair 3 0 ∷ pairsA))) (replicate 90 9) ≡ record { reply = done 90; buffer = indexA }
   -- put in: 7, 9, 5, 14, 3, 12; both buffers stay
   put-no-index : change (put-in 9 9) [] (9 ∷ []) ≡ record { reply = refusedBy 7; buffer = 9 ∷ [] }
-  put-links-file : change (put-in 0 3) (writeLinks 5 pairsA) (replicate 98 9) ≡ record { reply = refusedBy 7; buffer = replicate 98 9 }
-  put-longer : change (put-in 0 3) (indexA ++ (5 ∷ [])) (replicate 98 9) ≡ record { reply = refusedBy 7; buffer = replicate 98 9 }
+  put-links-file : change (put-in 0 3) (writeLinks 5 pairsA) (replicate 104 9) ≡ record { reply = refusedBy 7; buffer = replicate 104 9 }
+  put-longer : change (put-in 0 3) (indexA ++ (5 ∷ [])) (replicate 104 9) ≡ record { reply = refusedBy 7; buffer = replicate 104 9 }
   put-outside : change (put-in 3 3) indexT (9 ∷ []) ≡ record { reply = refusedBy 9; buffer = 9 ∷ [] }
   put-outside-first : change (put-in 3 0) indexT [] ≡ record { reply = refusedBy 9; buffer = [] }
-  put-outside-second : change (put-in 0 3) indexT (replicate 98 9) ≡ record { reply = refusedBy 9; buffer = replicate 98 9 }
+  put-outside-second : change (put-in 0 3) indexT (replicate 104 9) ≡ record { reply = refusedBy 9; buffer = replicate 104 9 }
   put-far-outside : change (put-in 4_294_967_295 0) indexT [] ≡ record { reply = refusedBy 9; buffer = [] }
   put-equal : change (put-in 2 2) indexT (9 ∷ []) ≡ record { reply = refusedBy 5; buffer = 9 ∷ [] }
-  put-equal-with-room : change (put-in 0 0) indexT (replicate 98 9) ≡ record { reply = refusedBy 5; buffer = replicate 98 9 }
+  put-equal-with-room : change (put-in 0 0) indexT (replicate 104 9) ≡ record { reply = refusedBy 5; buffer = replicate 104 9 }
   put-again : change (put-in 2 0) indexT (9 ∷ []) ≡ record { reply = refusedBy 14; buffer = 9 ∷ [] }
-  put-again-with-room : change (put-in 0 2) indexT (replicate 98 9) ≡ record { reply = refusedBy 14; buffer = replicate 98 9 }
-  put-short : change (put-in 3 0) indexA (replicate 97 9) ≡ record { reply = refusedBy 12; buffer = replicate 97 9 }
+  put-again-with-room : change (put-in 0 2) indexT (replicate 104 9) ≡ record { reply = refusedBy 14; buffer = replicate 104 9 }
+  put-short : change (put-in 3 0) indexA (replicate 103 9) ≡ record { reply = refusedBy 12; buffer = replicate 103 9 }
   equal-and-there : altered (put-in 1 1) (record { n = 3; links = link 1 1 ∷ [] }) ≡ refuse 5 0
   full-outside : altered (put-in 3 0) full ≡ refuse 9 0
   full-equal : altered (put-in 2 2) full ≡ refuse 5 0
@@ -57,14 +59,14 @@ pub record ChangeCases : Type 0 where
   full-other : altered (put-in 0 2) full ≡ refuse 3 0
   room-for-one : altered (put-in 0 2) oneFewer ≡ passed (record { n = 3; links = replicate (maxLinks - 1) (link 0 1) ++ (link 0 2 ∷ []) })
   -- withdraw: 7, 9, 11, 12; "a withdrawn link must exist", which none with equal ends does
-  withdraw-no-index : change (withdraw 9 0) (headOnly 0) [] ≡ record { reply = refusedBy 7; buffer = [] }
+  withdraw-no-index : change (withdraw 9 0) (indexOnly 0) [] ≡ record { reply = refusedBy 7; buffer = [] }
   withdraw-outside : change (withdraw 3 3) indexT [] ≡ record { reply = refusedBy 9; buffer = [] }
   withdraw-outside-first : change (withdraw 3 0) indexT (9 ∷ []) ≡ record { reply = refusedBy 9; buffer = 9 ∷ [] }
-  withdraw-outside-second : change (withdraw 0 3) indexT (replicate 98 9) ≡ record { reply = refusedBy 9; buffer = replicate 98 9 }
+  withdraw-outside-second : change (withdraw 0 3) indexT (replicate 104 9) ≡ record { reply = refusedBy 9; buffer = replicate 104 9 }
   withdraw-equal : change (withdraw 2 2) indexT [] ≡ record { reply = refusedBy 11; buffer = [] }
-  withdraw-none : change (withdraw 4 0) indexA (replicate 98 9) ≡ record { reply = refusedBy 11; buffer = replicate 98 9 }
+  withdraw-none : change (withdraw 4 0) indexA (replicate 104 9) ≡ record { reply = refusedBy 11; buffer = replicate 104 9 }
   withdraw-none-short : change (withdraw 0 4) indexA (9 ∷ []) ≡ record { reply = refusedBy 11; buffer = 9 ∷ [] }
-  withdraw-short : change (withdraw 2 1) indexA (replicate 45 9) ≡ record { reply = refusedBy 12; buffer = replicate 45 9 }
+  withdraw-short : change (withdraw 2 1) indexA (replicate 75 9) ≡ record { reply = refusedBy 12; buffer = replicate 75 9 }
   withdraw-full : altered (withdraw 2 1) full ≡ refuse 11 0
   -- what a plain set holds after a change
   set-put : moved (put-in 3 0) (member (graphA .links)) (link 0 3) ≡ true
@@ -73,10 +75,10 @@ pub record ChangeCases : Type 0 where
   set-withdrawn : moved (withdraw 2 0) (member (graphA .links)) (link 0 2) ≡ false
   set-withdrawn-others : moved (withdraw 2 0) (member (graphA .links)) (link 1 2) ≡ true
   -- a sequence: changes refused by 14, 12 and 11 move nothing; down to no links and up again
-  sequence : Changes Changed (headOnly 3) (member []) (indexBytes (graphOf 3 (pair 0 2 ∷ []))) (moved (put-in 2 0) (moved (withdraw 0 1) (moved (put-in 1 0) (member []))))
+  sequence : Changes Changed (indexOnly 3) (member []) (indexBytes (graphOf 3 (pair 0 2 ∷ []))) (moved (put-in 2 0) (moved (withdraw 0 1) (moved (put-in 1 0) (member []))))
 
 pub change-cases : ChangeCases
-unfolding full oneFewer indexT indexB indexA graphA pairsA graphOf indexBytes pair headOnly writeLinks member withLink withoutLink altered change moved
+unfolding full oneFewer indexT indexB indexA graphA pairsA graphOf indexBytes pair indexOnly writeLinks member withLink withoutLink altered change moved
 change-cases = record {
   put-first = refl;
   put-exact = refl;
@@ -124,9 +126,9 @@ change-cases = record {
   sequence =
       one (put-in 1 0) (replicate 20 9) _ refl
       (one (put-in 0 1) (replicate 20 9) _ refl
-      (one (put-in 0 2) (replicate 13 9) _ refl
+      (one (put-in 0 2) (replicate 33 9) _ refl
       (one (withdraw 1 2) (replicate 20 9) _ refl
       (one (withdraw 0 1) (replicate 6 9) _ refl
       (one (withdraw 0 1) (replicate 20 9) _ refl
-      (one (put-in 2 0) (replicate 14 9) _ refl none))))));
+      (one (put-in 2 0) (replicate 20 9) _ refl none))))));
 }

@@ -32,7 +32,7 @@ pub record Builds (file b : List ℕ) : Type 0 where
 abbrev pub AllOrNone : Type 0 → Type 0 → Type 0 → Type 0
 AllOrNone A B C = (A × B × C) ⊎ ((¬ A) × (¬ B) × (¬ C))
 
--- "for any two different links e, f of one of them and each k from 3 to 64": chain, stored forest and stored tree agree
+-- "for any two different links e, f of one of them and each k" up to 64, which "now starts at k = 2": chain, stored forest and stored tree agree
 abbrev pub Agrees : ℕ → List Pair → List ℕ → Type 0
 Agrees n ps b =
     (e f : Link) → HasLink ps e → HasLink ps f → e ≢ f → (k : ℕ) → minLevel ≤ k → k ≤ maxLevel

@@ -7,7 +7,7 @@ use Rattle.truss.specs.Question.{ask-strength, ask-groups-at, ask-all, a
 use Rattle.truss.specs.Call.{Reply, ask, askBytes, done, doneWith}
 use Rattle.truss.specs.Run.{Seen, Run, none, one, ownAnswered, Asks, AsksBytes}
 use Rattle.truss.specs.Windows.{refusedBy}
-use Rattle.truss.specs.Cards.{headOnly, accounts, sevens, indexT}
+use Rattle.truss.specs.Cards.{indexOnly, accounts, sevens, indexT}
 
 abbrev seen : ℕ → Reply → Seen
 seen w r = record { window = w; reply = r }
@@ -32,7 +32,7 @@ pub record DeskCases : Type 0 where
   before-7 : ask [] (ask-strength 0 1) [] 32 sevens ≡ record { reply = refusedBy 13; buffer = []; tallies = sevens }
   before-8 : ask indexT (ask-all []) (9 ∷ 9 ∷ []) 32 sevens ≡ record { reply = refusedBy 13; buffer = 9 ∷ 9 ∷ []; tallies = sevens }
   before-9 : ask indexT (ask-strength 0 3) [] 32 sevens ≡ record { reply = refusedBy 13; buffer = []; tallies = sevens }
-  before-10 : ask indexT (ask-groups-at 2 (accounts (0 ∷ []))) (9 ∷ 9 ∷ []) 32 sevens ≡ record { reply = refusedBy 13; buffer = 9 ∷ 9 ∷ []; tallies = sevens }
+  before-10 : ask indexT (ask-groups-at 1 (accounts (0 ∷ []))) (9 ∷ 9 ∷ []) 32 sevens ≡ record { reply = refusedBy 13; buffer = 9 ∷ 9 ∷ []; tallies = sevens }
   before-11 : ask indexT (ask-links 3 0 0) (9 ∷ 9 ∷ []) 32 sevens ≡ record { reply = refusedBy 13; buffer = 9 ∷ 9 ∷ []; tallies = sevens }
   before-12 : ask indexT (ask-all (accounts (2 ∷ []))) [] 32 sevens ≡ record { reply = refusedBy 13; buffer = []; tallies = sevens }
   -- as bytes: "four to a tally, high byte first", in window order; the bytes of the others and those beyond stay, also where a tally carries through all its bytes
@@ -55,10 +55,10 @@ pub record DeskCases : Type 0 where
   bytes-127 : askBytes indexT (ask-all (accounts (2 ∷ []))) (replicate 4 9) 0 (replicate 127 0)
       ≡ record { reply = refusedBy 12; buffer = replicate 4 9; desk = replicate 127 0 }
   bytes-none : askBytes indexT (ask-strength 0 1) [] 0 [] ≡ record { reply = refusedBy 12; buffer = []; desk = [] }
-  short-after-7 : askBytes (headOnly 1 ++ (5 ∷ [])) (ask-all []) [] 0 [] ≡ record { reply = refusedBy 7; buffer = []; desk = [] }
+  short-after-7 : askBytes (indexOnly 1 ++ (5 ∷ [])) (ask-all []) [] 0 [] ≡ record { reply = refusedBy 7; buffer = []; desk = [] }
   short-after-8 : askBytes indexT (ask-all []) [] 0 [] ≡ record { reply = refusedBy 8; buffer = []; desk = [] }
   short-after-9 : askBytes indexT (ask-strength 0 3) [] 0 [] ≡ record { reply = refusedBy 9; buffer = []; desk = [] }
-  short-after-10 : askBytes indexT (ask-groups-at 2 (accounts (0 ∷ []))) [] 0 (replicate 4 7) ≡ record { reply = refusedBy 10; buffer = []; desk = replicate 4 7 }
+  short-after-10 : askBytes indexT (ask-groups-at 1 (accounts (0 ∷ []))) [] 0 (replicate 4 7) ≡ record { reply = refusedBy 10; buffer = []; desk = replicate 4 7 }
   short-after-11 : askBytes indexT (ask-strength 0 0) [] 0 (replicate 127 7) ≡ record { reply = refusedBy 11; buffer = []; desk = replicate 127 7 }
   -- 13 ahead of 7 and of a short record; a record may be long enough for a window 32, which it has not
   bytes-13 : askBytes [] (ask-all []) [] 32 [] ≡ record { reply = refusedBy 13; buffer = []; desk = [] }
@@ -84,7 +84,7 @@ asks-nothing : {s t : List ℕ} {w : ℕ} {r : Reply} → r ≡ askBytes [] (ask
 asks-nothing p q = record { bytes = []; question = ask-all []; buffer = 9 ∷ []; lent = 128; replies = p; leaves = q }
 
 pub desk-cases : DeskCases
-unfolding sevens indexT headOnly accounts ask askBytes ownAnswered
+unfolding sevens indexT indexOnly accounts ask askBytes ownAnswered
 desk-cases = record {
   window-0 = refl;
   window-1 = refl;

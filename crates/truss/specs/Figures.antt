@@ -1,5 +1,5 @@
--- The figures of documents 01 and 02, each as they print it, and the cases at either side of a limit. No case of another file depends on the limits
--- of links, strength or index bytes.
+-- The figures of documents 01 and 02, each as they print it, and the cases at either side of a limit. No case of another file depends on the limit
+-- of links, the greatest strength or the limit of index bytes.
 use mathlib.Core.Path.{_≡_, refl}
 use mathlib.Core.List.{[], _∷_}
 use Rattle.truss.specs.Limits.{maxAccounts, maxLinks, minStrength, maxStrength, minLevel, maxLevel, maxNamed, noGroup, maxIndexBytes, maxChainBytes, maxTally, tallyLength, windows, deskLength}
@@ -12,10 +12,10 @@ pub record Figures : Type 0 where
   -- "n is 1 to 1,024, m is 0 to 2,048"
   accounts-are : maxAccounts ≡ 1024
   links-are : maxLinks ≡ 2048
-  -- "A strength runs from 2 to 64"; "joined at k, for k from 3 up"; "k below 3 or above 64"
+  -- "A strength runs from 2 to 64"; "k may be 2"; "refusal 10 means below 2 or above 64"
   least-strength : minStrength ≡ 2
   greatest-strength : maxStrength ≡ 64
-  least-level : minLevel ≡ 3
+  least-level : minLevel ≡ 2
   greatest-level : maxLevel ≡ 64
   -- "One to 16 accounts are named"; "FFFF for none"; "at most 40,960 bytes"; "resting at 4,294,967,295"; "four to a tally"
   named-are : maxNamed ≡ 16
@@ -32,17 +32,17 @@ pub record Figures : Type 0 where
   -- "m = 2,048 is taken, 2,049 is 3": a head alone, so the first link is missed
   most-links : readLinks (file 5 2048 [] []) ≡ refuse 1 5
   too-many-links : readLinks (file 5 2049 [] []) ≡ refuse 3 0
-  -- "k = 2 and 65 are 10, 3 and 64 pass"
-  C-level-2 : answer triangle (ask-groups-at 2 (accounts (0 ∷ []))) ≡ refuse 10 0
-  C-level-3 : answer triangle (ask-groups-at 3 (accounts (0 ∷ []))) ≡ passed (numbers (0 ∷ []))
+  -- "k = 2 and 65 are 10, 3 and 64 pass", where now 1 is 10 and 2 passes
+  C-level-1 : answer triangle (ask-groups-at 1 (accounts (0 ∷ []))) ≡ refuse 10 0
+  C-level-2 : answer triangle (ask-groups-at 2 (accounts (0 ∷ []))) ≡ passed (numbers (0 ∷ []))
   C-level-64 : answer triangle (ask-groups-at 64 (accounts (0 ∷ []))) ≡ passed (numbers [])
   C-level-65 : answer triangle (ask-groups-at 65 (accounts (0 ∷ []))) ≡ refuse 10 0
-  F-level-2 : answer triangle (ask-links 2 0 1) ≡ refuse 10 0
-  F-level-3 : answer triangle (ask-links 3 1 0) ≡ passed (numbers (0 ∷ 1 ∷ 2 ∷ []))
+  F-level-1 : answer triangle (ask-links 1 0 1) ≡ refuse 10 0
+  F-level-2 : answer triangle (ask-links 2 1 0) ≡ passed (numbers (0 ∷ 1 ∷ 2 ∷ []))
   F-level-64 : answer triangle (ask-links 64 0 1) ≡ passed (numbers [])
   F-level-65 : answer triangle (ask-links 65 0 1) ≡ refuse 10 0
-  G-level-2 : answer triangle (ask-chain 2 0 1 1 2) ≡ refuse 10 0
-  G-level-3 : answer triangle (ask-chain 3 0 1 1 2) ≡ passed (chain (corners 0 1 2 ∷ []))
+  G-level-1 : answer triangle (ask-chain 1 0 1 1 2) ≡ refuse 10 0
+  G-level-2 : answer triangle (ask-chain 2 0 1 1 2) ≡ passed (chain (corners 0 1 2 ∷ []))
   G-level-64 : answer triangle (ask-chain 64 0 1 1 2) ≡ passed (chain [])
   G-level-65 : answer triangle (ask-chain 65 0 1 1 2) ≡ refuse 10 0
 
@@ -66,16 +66,16 @@ figures = record {
   most-accounts = refl;
   most-links = refl;
   too-many-links = refl;
+  C-level-1 = refl;
   C-level-2 = refl;
-  C-level-3 = refl;
   C-level-64 = refl;
   C-level-65 = refl;
+  F-level-1 = refl;
   F-level-2 = refl;
-  F-level-3 = refl;
   F-level-64 = refl;
   F-level-65 = refl;
+  G-level-1 = refl;
   G-level-2 = refl;
-  G-level-3 = refl;
   G-level-64 = refl;
   G-level-65 = refl;
 }

@@ -1,10 +1,7 @@
 -- The index of a graph: what its records say, its bytes, and what the bytes of an index say.
-use mathlib.Core.Bool.{cond}
 use mathlib.Core.List.{List, [], _∷_, _++_, map}
 use Prim.Native.Nat.{ℕ}
-use lib.Dec.{leb}
 use lib.ListN.{length, getD}
-use Rattle.truss.specs.Limits.{minLevel, noGroup}
 use Rattle.truss.specs.Lists.{concatMap, range}
 use Rattle.truss.specs.Graph.{Graph, linkAt}
 use Rattle.truss.specs.Strength.{strength}
@@ -14,7 +11,7 @@ use Rattle.truss.specs.Record.{kindIndexHead, kindStrongLink, kindJoin, 
 
 -- ---- what an index says
 
--- "2 strong link: lower account (2), higher account (2), strength (1), group (2), FFFF at strength 2"
+-- "2 strong link: lower account (2), higher account (2), strength (1), group (2)", and "no strong link carries FFFF"
 pub record LinkRow : Type 0 where
   pub lo : ℕ
   pub hi : ℕ
@@ -34,12 +31,12 @@ pub record Index : Type 0 where
   pub joins : List Join
   pub groups : List GroupRow
 
--- "A strong link names the group at its own strength."
+-- "A strong link names the group at its own strength"; "a link of strength 2 is a stored group of its own"
 unfoldable pub linkRow : Graph → List Group → ℕ → LinkRow
 unfolding strength groupOf
 linkRow G gs i =
     let s = strength G (linkAt G i) in
-    record { lo = linkAt G i .lo; hi = linkAt G i .hi; strength = s; group = cond (leb minLevel s) (groupOf G gs s i) noGroup }
+    record { lo = linkAt G i .lo; hi = linkAt G i .hi; strength = s; group = groupOf G gs s i }
 
 unfoldable pub groupRow : List Group → Group → GroupRow
 unfolding parent

@@ -31,6 +31,8 @@ pub mod Run
 -- demand 3
 pub mod Stored
 pub mod Demand3
+-- lone links
+pub mod Lone
 -- a link put in or withdrawn, and any sequence of changes
 pub mod Changes
 -- the worked cases; the statements spelled out
@@ -39,6 +41,7 @@ pub mod Cases
 pub mod StrengthCases
 pub mod ChainCases
 pub mod OrderCases
+pub mod LoneCases
 pub mod WholeCalls
 pub mod DeskCases
 pub mod ChangeCases

@@ -16,9 +16,9 @@ minStrength = 2
 abbrev pub maxStrength : ℕ
 maxStrength = 64
 
--- "joined at k, for k from 3 up"; "k below 3 or above 64" is refused
+-- "k may be 2" (document 02, request 7), the least strength; "below 2 or above 64" is refused
 abbrev pub minLevel : ℕ
-minLevel = 3
+minLevel = minStrength
 
 abbrev pub maxLevel : ℕ
 maxLevel = maxStrength
@@ -27,7 +27,7 @@ maxLevel = maxStrength
 abbrev pub maxNamed : ℕ
 maxNamed = 16
 
--- "FFFF at strength 2", "FFFF for none": what is written for no group and for no parent
+-- "FFFF for none": what is written for no parent; "no strong link carries FFFF" (laws: own-group-named)
 abbrev pub noGroup : ℕ
 noGroup = 0xFFFF
 

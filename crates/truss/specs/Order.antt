@@ -49,7 +49,7 @@ WellCounted named = (c : ℕ) × (1 ≤ c) × (c ≤ maxNamed) × (length named 
 abbrev pub Inside : Graph → List ℕ → Type 0
 Inside G named = (v : ℕ) → In v (accountsIn named) → v < G .n
 
--- 10 is met otherwise: "k below 3 or above 64"
+-- 10 is met otherwise: k "below 2 or above 64"
 abbrev pub Level : ℕ → Type 0
 Level k = (minLevel ≤ k) × (k ≤ maxLevel)
 

@@ -16,8 +16,9 @@ use Rattle.truss.specs.Record.{fromBytes}
 
 -- ---- the answers. A, "the strength s, and how many triangles of weight at least s hold the link", is `strength` and `supportAt`.
 
--- B. "The largest k at which two links are joined, 0 if none; a link with itself gives its strength, or 0 at strength 2." A link is in its own group
--- at k just if its strength is at least k, and other links are in it just if they are joined (laws: joined-up-to-is, joined-up-to-max).
+-- B. "The largest k at which two links are joined, 0 if none; a link with itself gives its strength", which may be 2: it "counts as joined to itself at every k up
+-- to its strength". A link is in its own group at k just if its strength is at least k, and other links are in it just if they are joined (laws: joined-up-to-is,
+-- joined-up-to-max, joined-itself).
 unfoldable pub joinedUpTo : Graph → Link → Link → ℕ
 unfolding largest any groupAt linkNumber
 joinedUpTo G e f = largest (λ k. leb minLevel k && any (eqb (linkNumber G f)) (groupAt G k (linkNumber G e))) (strengthBound G)
@@ -118,7 +119,7 @@ unfoldable pub outside : Graph → List ℕ → Bool
 unfolding any
 outside G vs = any (leb (G .n)) vs
 
--- 10: "k below 3 or above 64"
+-- 10: "below 2 or above 64"
 abbrev pub badLevel : ℕ → Bool
 badLevel k = ltb k minLevel || ltb maxLevel k
 

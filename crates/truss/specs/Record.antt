@@ -7,7 +7,7 @@ use lib.Dec.{eqb, leb}
 use lib.ListN.{length, getD, take, drop}
 use Rattle.truss.specs.Lists.{filter}
 
--- the kinds, by document 01's table
+-- the kinds, by document 01's table; 7 by document 02, request 7
 abbrev pub kindHead : ℕ
 kindHead = 1
 
@@ -26,13 +26,17 @@ kindEnd = 5
 abbrev pub kindPlainLink : ℕ
 kindPlainLink = 6
 
--- the kind of the head with which an index begins
+-- "An index now begins with kind 7, with the body of kind 1 .. Links files keep kind 1."
 abbrev pub kindIndexHead : ℕ
-kindIndexHead = kindHead
+kindIndexHead = 7
 
--- the body length that a kind fixes, by the table; none for an unknown kind (0 is one)
+-- the table of body lengths, by kind; 0 is no kind
+abbrev pub bodyLengths : List (Option ℕ)
+bodyLengths = none ∷ some 4 ∷ some 7 ∷ some 5 ∷ some 5 ∷ some 0 ∷ some 4 ∷ some 4 ∷ []
+
+-- the body length that a kind fixes, none for an unknown kind
 unfoldable pub bodyLength : ℕ → Option ℕ
-bodyLength kind = getD (none ∷ some 4 ∷ some 7 ∷ some 5 ∷ some 5 ∷ some 0 ∷ some 4 ∷ []) kind none
+bodyLength kind = getD bodyLengths kind none
 
 -- "Two-byte fields stand high byte first": a number's field, and the number in two bytes
 abbrev pub field : ℕ → List ℕ

@@ -70,7 +70,7 @@ unfoldable pub fewestTriangles : List Triangle → Graph → Link → Link → �
 unfolding position member starts range
 fewestTriangles T G e f = suc (position (λ r. member (starts T f r) e) (range 1 (length (G .links))))
 
--- G. The triangles of the chain, none if there is no chain.
+-- G. The triangles of the chain, none if there is no chain: so too for "a lone link with itself at 2", which counts as joined to itself without a chain.
 unfoldable pub shortestChain : Graph → ℕ → Link → Link → List Triangle
 unfolding strongTriangles walk fewestTriangles
 shortestChain G k e f = let T = strongTriangles G k in walk T f (fewestTriangles T G e f) (e ∷ [])

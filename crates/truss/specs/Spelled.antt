@@ -1,37 +1,40 @@
 -- Demand 3 in plain words of the definitions: what it says of any files, links and levels, whatever memory was lent; what question A answers (Firmness), and how an answer stands in reply and
--- buffer; what C, D and E list (Order); what question G answers (Ways); what the window and the record as bytes have to do with a question (Windows); tallies over a run (Run); and links that come and go (Changes).
+-- buffer; what C, D and E list (Order); what question G answers (Ways); lone links (Lone); what the window and the record as bytes have to do with a question (Windows); tallies over a run (Run); and links that come and go (Changes).
 -- A hypothesis more in one of them, or a conclusion less, fails here; no law fails at it, since the law that is left is weaker and true.
 use mathlib.Core.Path.{_≡_, refl, sym, ap, _∙_, subst}
 use mathlib.Core.Logic.{_⊎_, inl, inr, _↔_, _≢_}
-use mathlib.Core.Bool.{true, false, cond, not, _&&_, _||_}
+use mathlib.Core.Bool.{Bool, true, false, cond, not, _&&_, _||_}
 use mathlib.Core.List.{List, [], _∷_, _++_, map}
 use mathlib.Core.List.{List·Memᴰ as In}
 use Prim.Native.Nat.{ℕ, suc, _+_, _*_, _-_, _≤_, _<_, min}
+use native.Mathlib.Nat.{min-comm, max-comm}
 use native.Mathlib.Omega.{arith}
-use lib.Dec.{eqb}
+use lib.Dec.{eqb, ltb}
 use lib.ListN.{length, getD, take, drop, set}
-use Rattle.truss.specs.Limits.{maxLinks, minLevel, maxLevel, maxNamed, maxChainBytes}
-use Rattle.truss.specs.Lists.{any, concatMap, count}
-use Rattle.truss.specs.Graph.{Link, LinkSet, Pair, Graph, Triangle, Has, link, linkAt, sameLink, linkOf, graphOf, member}
+use Rattle.truss.specs.Limits.{maxLinks, minLevel, maxLevel, maxNamed, maxIndexBytes, maxChainBytes}
+use Rattle.truss.specs.Lists.{any, concatMap, count, range, sameList}
+use Rattle.truss.specs.Graph.{Link, LinkSet, Pair, Graph, Triangle, IsTriangle, Has, link, linkAt, sameLink, linkOf, graphOf, member}
 use Rattle.truss.specs.Strength.{IsStrength}
-use Rattle.truss.specs.Chain.{AtLeast, StrongTriangle, Joined}
+use Rattle.truss.specs.Chain.{AtLeast, StrongTriangle, Joined, InGroup}
 use Rattle.truss.specs.Shortest.{IsShortestFirst, triangleBefore, shortestChain}
 use Rattle.truss.specs.Support.{EachOnce, nothing, and-one}
-use Rattle.truss.specs.Group.{Group, leastLink, groups}
-use Rattle.truss.specs.Refusal.{Refusal, passed, refused, refuse, andThen}
+use Rattle.truss.specs.Group.{Group, leastLink, groups, parent}
+use Rattle.truss.specs.Refusal.{Checked, Refusal, passed, refused, refuse, refuseIf, andThen}
 use Rattle.truss.specs.Record.{field}
-use Rattle.truss.specs.LinksFile.{accepted, readLinks}
-use Rattle.truss.specs.Index.{decode, indexBytes}
-use Rattle.truss.specs.IndexFile.{readIndex}
-use Rattle.truss.specs.Question.{Question, Answer, two-numbers, number, numbers, chain, ask-strength, ask-groups-at, ask-strongest, ask-all, accountsIn, emptyGroup, holds, groupsHolding, strongestHolding, allHolding}
+use Rattle.truss.specs.LinksFile.{Links, accepted, graphOfLinks, readLinks, writeLinks, pairsOf, readBack}
+use Rattle.truss.specs.Index.{Index, linkBytes, joinBytes, groupBytes, encode, decode, indexBytes}
+use Rattle.truss.specs.IndexFile.{linksFileIn, ifIndexIs, readIndex}
+use Rattle.truss.specs.Question.{Question, Answer, two-numbers, number, numbers, chain, ask-strength, ask-joined, ask-groups-at, ask-strongest, ask-all, ask-links, ask-chain, accountsIn, outside, answer, joinedUpTo, groupLinks, emptyGroup, holds, groupsHolding, strongestHolding, allHolding}
 use Rattle.truss.specs.Call.{Written, Asked, answerBytes, answerValue, answerSecond, answerReply, settle, checkedAnswer, build, done, ask, askBytes, tallyAt}
-use Rattle.truss.specs.Stored.{ForestConnects, TreeHolds}
+use Rattle.truss.specs.Stored.{ForestConnects, TreeHolds, rowAt, groupRowAt, Leads}
 use Rattle.truss.specs.Demand3.{Builds, AllOrNone, Demand3, OnlyShortMemory}
 use Rattle.truss.specs.Kept.{RefusalKeeps}
 use Rattle.truss.specs.Firmness.{IsFirmness, FirmnessRule}
 use Rattle.truss.specs.Order.{ListedBefore, stronger, larger, earlier, InOrder, and-first, WellCounted, Inside, Level, Means, means-C, means-D, means-E, C-count, C-outside, C-level, D-count, D-outside, E-count, E-outside, OrderRule}
 use Rattle.truss.specs.Order.{nothing as no-group}
+use Rattle.truss.specs.Listing.{Row, rows, newline, groupsWord, noRow, decimal, rowText, listingText}
 use Rattle.truss.specs.Ways.{Ways}
+use Rattle.truss.specs.Lone.{LoneRule}
 use Rattle.truss.specs.Windows.{refusedBy, recordOf, WindowRule, RecordRule}
 use Rattle.truss.specs.Run.{Seen, Run, ownAnswered, Asks, RunTallies, AsksBytes, RunRecord}
 use Rattle.truss.specs.Change.{Change, put-in, withdraw, change}
@@ -87,6 +90,39 @@ no-level : (k : ℕ) → (k < minLevel) ⊎ (maxLevel < k) → ¬ Level k
 no-level k (inl l) (a, b) = omega arith
 no-level k (inr l) (a, b) = omega arith
 
+abbrev asRow : Graph → Group → Row
+asRow G g =
+    record {
+      strength = g .strength;
+      parent = parent (groups G) g;
+      links = length (g .members);
+      accounts = endsOf G g;
+      lo = linkAt G (leastLink g) .lo;
+      hi = linkAt G (leastLink g) .hi;
+    }
+
+-- bytes are an index, or are refused by 7
+pass-or-7 : (bytes : List ℕ) → ((G : Graph) × (readIndex bytes ≡ passed G)) ⊎ (readIndex bytes ≡ refuse 7 0)
+unfolding readIndex ifIndexIs
+pass-or-7 bytes = of (readLinks (linksFileIn bytes))
+  where
+    at : (G : Graph) (t : Bool) → ((H : Graph) × (refuseIf t 7 0 (passed G) ≡ passed H)) ⊎ (refuseIf t 7 0 (passed G) ≡ refuse 7 0)
+    at G true = inr refl
+    at G false = inl (G, refl)
+
+    of : (x : Checked Links) → ((G : Graph) × (ifIndexIs bytes x ≡ passed G)) ⊎ (ifIndexIs bytes x ≡ refuse 7 0)
+    of (passed l) = at (graphOfLinks l) (not (sameList (indexBytes (graphOfLinks l)) bytes))
+    of (refused r) = inr refl
+
+not-kind-1 : LoneRule → (bytes : List ℕ) → getD bytes 0 0 ≡ 1 → ((G : Graph) × (readIndex bytes ≡ passed G)) ⊎ (readIndex bytes ≡ refuse 7 0) → readIndex bytes ≡ refuse 7 0
+not-kind-1 r bytes q (inl (G, h)) = absurd (omega (arith, q, r .pairs bytes G h .begins))
+not-kind-1 r bytes q (inr s) = s
+
+-- a pair either way round is the same link
+same-link : {a b c d : ℕ} → ((c ≡ a) × (d ≡ b)) ⊎ ((c ≡ b) × (d ≡ a)) → link c d ≡ link a b
+same-link (inl (p, q)) = rw (p, q) refl
+same-link {a} {b} (inr (p, q)) = rw (p, q) (λ i. record { lo = min-comm b a i; hi = max-comm b a i })
+
 -- what a rule gives for one row it gives for every row that is listed
 rule-lists : OrderRule → (bytes : List ℕ) (G : Graph) (q : Question) (is js : List ℕ) → readIndex bytes ≡ passed G → Means G q is → ((i : ℕ) → In i js ↔ In i is) → InOrder G js → ListsAll bytes q js
 rule-lists r bytes G q is js h m same o =
@@ -101,7 +137,7 @@ pub record Spelled : Type 0 where
       → (b ≡ b′) ↔ ((n ≡ n′) × ((e : Link) → (member (map linkOf ps) e ≡ true) ↔ (member (map linkOf ps′) e ≡ true)))
   all-agree : Demand3 → (file : List ℕ) (n : ℕ) (ps : List Pair) (b lent : List ℕ)
       → readLinks file ≡ accepted n ps → build file lent .reply ≡ done (length b) → take (length b) (build file lent .buffer) ≡ b
-      → (e f : Link) → member (map linkOf ps) e ≡ true → member (map linkOf ps) f ≡ true → e ≢ f → (k : ℕ) → minLevel ≤ k → k ≤ maxLevel
+      → (e f : Link) → member (map linkOf ps) e ≡ true → member (map linkOf ps) f ≡ true → e ≢ f → (k : ℕ) → 2 ≤ k → k ≤ maxLevel
       → (Joined (graphOf n ps) k e f ↔ ForestConnects (decode b) k e f) × (Joined (graphOf n ps) k e f ↔ TreeHolds (decode b) k e f)
   only-short-memory : OnlyShortMemory → (file : List ℕ) (n : ℕ) (ps : List Pair) (lent : List ℕ)
       → readLinks file ≡ accepted n ps → length (indexBytes (graphOf n ps)) ≤ length lent → build file lent .reply ≡ done (length (indexBytes (graphOf n ps)))
@@ -169,13 +205,63 @@ pub record Spelled : Type 0 where
       × ((ts us : List Triangle) → IsShortestFirst (graphOf n ps) k e f ts → IsShortestFirst (graphOf n ps) k e f us → ts ≡ us)
       × ((shortestChain (graphOf n ps) k e f ≡ []) ↔ (¬ Joined (graphOf n ps) k e f))
   with-itself : Ways → (file : List ℕ) (n : ℕ) (ps : List Pair) → readLinks file ≡ accepted n ps → (k : ℕ) (e : Link)
-      → (minLevel ≤ k → AtLeast (graphOf n ps) k e
+      → (AtLeast (graphOf n ps) 3 e → AtLeast (graphOf n ps) k e
       → (t : Triangle) × (shortestChain (graphOf n ps) k e e ≡ t ∷ []) × StrongTriangle (graphOf n ps) k t × Has t e
       × ((u : Triangle) → StrongTriangle (graphOf n ps) k u → Has u e → triangleBefore u t ≡ false))
       × (¬ AtLeast (graphOf n ps) k e → shortestChain (graphOf n ps) k e e ≡ [])
+  -- of links that count as joined
+  no-triangle : Ways → (file : List ℕ) (n : ℕ) (ps : List Pair) → readLinks file ≡ accepted n ps → (k : ℕ) (e f : Link) → 2 ≤ k → AtLeast (graphOf n ps) k e → (f ≡ e) ⊎ Joined (graphOf n ps) k e f
+      → (shortestChain (graphOf n ps) k e f ≡ []) ↔ ((f ≡ e) × (k ≡ 2) × IsStrength (graphOf n ps) e 2)
   chain-written : Ways → (file : List ℕ) (n : ℕ) (ps : List Pair) → readLinks file ≡ accepted n ps → (k : ℕ) (e f : Link)
       → ((t : Triangle) → In t (shortestChain (graphOf n ps) k e f) → (t .a < t .b) × (t .b < t .c))
       × (length (answerBytes (chain (shortestChain (graphOf n ps) k e f))) ≤ maxChainBytes)
+  -- lone links
+  in-group-is : (G : Graph) (k : ℕ) (e f : Link) → InGroup G k e f ↔ (AtLeast G k e × ((f ≡ e) ⊎ Joined G k e f))
+  lone-is : LoneRule → (bytes : List ℕ) (G : Graph) → readIndex bytes ≡ passed G → (e : Link) → member (G .links) e ≡ true
+      → IsStrength G e 2 ↔ ((t : Triangle) → IsTriangle (member (G .links)) t → ¬ Has t e)
+  joined-to-itself : LoneRule → (bytes : List ℕ) (G : Graph) → readIndex bytes ≡ passed G → (e : Link) (k s : ℕ) → IsStrength G e s → InGroup G k e e ↔ (k ≤ s)
+  B-with-itself : LoneRule → (bytes : List ℕ) (G : Graph) (a b c d : ℕ) (buffer : List ℕ) (w : ℕ) (tallies : List ℕ) (s : ℕ) → readIndex bytes ≡ passed G → w < 32
+      → member (G .links) (link a b) ≡ true → ((c ≡ a) × (d ≡ b)) ⊎ ((c ≡ b) × (d ≡ a)) → IsStrength G (link a b) s
+      → ask bytes (ask-joined a b c d) buffer w tallies
+      ≡ record { reply = record { refusal = 0; value = s; second = 0; third = 0 }; buffer = buffer; tallies = set tallies w (min (suc (getD tallies w 0)) 4_294_967_295) }
+  lone-group : LoneRule → (bytes : List ℕ) (G : Graph) → readIndex bytes ≡ passed G → (i : ℕ) → i < length (G .links) → IsStrength G (linkAt G i) 2
+      → (groupRowAt (decode bytes) (rowAt (decode bytes) i .group) ≡ record { parent = 65535; strength = 2; least = i })
+      × ((j : ℕ) → j < length (G .links) → Leads (decode bytes) (rowAt (decode bytes) j .group) (rowAt (decode bytes) i .group) → j ≡ i)
+  no-more-at-2 : LoneRule → (bytes : List ℕ) (G : Graph) → readIndex bytes ≡ passed G → (g : ℕ) → g < length (decode bytes .groups) → groupRowAt (decode bytes) g .strength ≡ 2
+      → (i : ℕ) × (i < length (G .links)) × IsStrength G (linkAt G i) 2 × (rowAt (decode bytes) i .group ≡ g)
+  each-named : LoneRule → (bytes : List ℕ) (G : Graph) → readIndex bytes ≡ passed G → (i : ℕ) → i < length (G .links)
+      → (rowAt (decode bytes) i .group < length (decode bytes .groups)) × (rowAt (decode bytes) i .group ≢ 65535)
+  groups-at-2 : LoneRule → (bytes : List ℕ) (G : Graph) → readIndex bytes ≡ passed G → (e f : Link) → InGroup G 2 e f ↔ (InGroup G 3 e f ⊎ ((f ≡ e) × IsStrength G e 2))
+  C-at-2 : LoneRule → (bytes : List ℕ) (G : Graph) → readIndex bytes ≡ passed G → (vs : List ℕ) (g : ℕ)
+      → In g (groupsHolding G 2 vs) ↔ (In g (groupsHolding G 3 vs) ⊎ (In g (allHolding G vs) × (getD (groups G) g emptyGroup .strength ≡ 2)))
+  joined-at-2 : LoneRule → (bytes : List ℕ) (G : Graph) → readIndex bytes ≡ passed G → (e f : Link) → Joined G 2 e f ↔ Joined G 3 e f
+  B-up-to : LoneRule → (bytes : List ℕ) (G : Graph) → readIndex bytes ≡ passed G → (e f : Link) → member (G .links) e ≡ true → member (G .links) f ≡ true
+      → ((k : ℕ) → 2 ≤ k → InGroup G k e f → k ≤ joinedUpTo G e f) × (0 < joinedUpTo G e f → (2 ≤ joinedUpTo G e f) × InGroup G (joinedUpTo G e f) e f)
+  F-links : LoneRule → (bytes : List ℕ) (G : Graph) → readIndex bytes ≡ passed G → (k : ℕ) (e : Link) (i : ℕ) → member (G .links) e ≡ true → i < length (G .links)
+      → In i (groupLinks G k e) ↔ InGroup G k e (linkAt G i)
+  index-room : LoneRule → (bytes : List ℕ) (G : Graph) → readIndex bytes ≡ passed G → length bytes ≤ maxIndexBytes
+  index-begins : LoneRule → (bytes : List ℕ) (G : Graph) → readIndex bytes ≡ passed G → getD bytes 0 0 ≡ 7
+  kind-1-meets-7 : LoneRule → (bytes : List ℕ) → getD bytes 0 0 ≡ 1 → readIndex bytes ≡ refuse 7 0
+  links-begin : LoneRule → (file : List ℕ) (n : ℕ) (ps : List Pair) → readLinks file ≡ accepted n ps → getD file 0 0 ≡ 1
+  kind-7-links : (b : List ℕ) → readLinks (7 ∷ b) ≡ refuse 1 0
+  -- the bytes of an index and of a links file that is written, one that is read back, and the lister's rows, whatever their number
+  index-written : (x : Index) → encode x
+      ≡ (7 ∷ (field (x .n) ++ field (x .m))) ++ (concatMap linkBytes (x .links) ++ (concatMap joinBytes (x .joins) ++ (concatMap groupBytes (x .groups) ++ (5 ∷ []))))
+  file-written : (n : ℕ) (ps : List Pair) → writeLinks n ps ≡ (1 ∷ (field n ++ field (length ps))) ++ (concatMap (λ p. 6 ∷ (field (p .first) ++ field (p .second))) ps ++ (5 ∷ []))
+  file-read-back : (G : Graph) → readBack G ≡ writeLinks (G .n) (map (λ e. record { first = e .lo; second = e .hi }) (G .links))
+  lister-rows : (G : Graph) → rows G ≡ map (asRow G) (groups G)
+  lister-lines : (rs : List Row) → listingText rs ≡ groupsWord ++ (decimal (length rs) ++ (newline ++ concatMap (λ g. rowText g (getD rs g noRow)) (range 0 (length rs))))
+  -- B, F and G: every order of checks, k from 2, and what is answered
+  asked-B : (G : Graph) (a b c d : ℕ) → answer G (ask-joined a b c d)
+      ≡ refuseIf (outside G (a ∷ b ∷ c ∷ d ∷ [])) 9 0
+      (refuseIf (not (member (G .links) (link a b)) || not (member (G .links) (link c d))) 11 0 (passed (number (joinedUpTo G (link a b) (link c d)))))
+  asked-F : (G : Graph) (k a b : ℕ) → answer G (ask-links k a b)
+      ≡ refuseIf (outside G (a ∷ b ∷ [])) 9 0
+      (refuseIf (ltb k 2 || ltb maxLevel k) 10 0 (refuseIf (not (member (G .links) (link a b))) 11 0 (passed (numbers (groupLinks G k (link a b))))))
+  asked-G : (G : Graph) (k a b c d : ℕ) → answer G (ask-chain k a b c d)
+      ≡ refuseIf (outside G (a ∷ b ∷ c ∷ d ∷ [])) 9 0
+      (refuseIf (ltb k 2 || ltb maxLevel k) 10 0
+      (refuseIf (not (member (G .links) (link a b)) || not (member (G .links) (link c d))) 11 0 (passed (chain (shortestChain G k (link a b) (link c d))))))
   tallies-of-a-run : RunTallies → (tallies tallies′ : List ℕ) (xs : List Seen) → length tallies ≡ 32 → Run Asks tallies xs tallies′ → (length tallies′ ≡ 32)
       × ((w : ℕ) → w < 32 → getD tallies w 0 ≤ 4_294_967_295 → getD tallies′ w 0 ≡ min (getD tallies w 0 + ownAnswered w xs) 4_294_967_295)
   record-of-a-run : RunRecord → (desk desk′ : List ℕ) (xs : List Seen) → Run AsksBytes desk xs desk′ → (length desk′ ≡ length desk)
@@ -235,7 +321,7 @@ told : (file : List ℕ) (n : ℕ) (ps : List Pair) → readLinks file ≡ accep
 told file n ps h = record { pairs = ps; is-index = record { file = file; file-accepted = h; bytes = refl }; names = λ e. (λ m. m, λ m. m) }
 
 pub spelled : Spelled
-unfolding moved settle answerBytes answerValue answerSecond checkedAnswer andThen accountsIn
+unfolding moved settle answerBytes answerValue answerSecond checkedAnswer andThen accountsIn encode writeLinks pairsOf readBack readLinks rows holds listingText answer
 spelled = record {
   same-index = λ d file file′ n n′ ps ps′ b b′ lent lent′ h r w h′ r′ w′.
       let s = d file file′ n n′ ps ps′ b b′ h h′ (record { lent = lent; not-refused = r; written = w }) (record { lent = lent′; not-refused = r′; written = w′ }) .same-index in
@@ -296,7 +382,33 @@ spelled = record {
   list-10 = λ r bytes G k named c h some few q inside l. r .refuses bytes G (ask-groups-at k named) 10 h (C-level (c, some, few, q) inside (no-level k l));
   shortest-way = λ w file n ps h k e f. let x = w file n ps h k e f in (x .given, x .only, x .none);
   with-itself = λ w file n ps h k e. let x = w file n ps h k e e in ((λ l s. let y = x .itself l s in (y .t, y .one, y .strong, y .holds, y .first)), x .itself-none);
+  no-triangle = λ w file n ps h k e f l s j. w file n ps h k e f .one-case l (record { strong = s; joined = j });
   chain-written = λ w file n ps h k e f. let x = w file n ps h k e f in (x .rising, x .room);
+  in-group-is = λ G k e f. ((λ x. (x .strong, x .joined)), (λ p. record { strong = p .0; joined = p .1 }));
+  lone-is = λ r bytes G h. r .pairs bytes G h .in-none;
+  joined-to-itself = λ r bytes G h. r .pairs bytes G h .itself;
+  B-with-itself = λ r bytes G a b c d buffer w tallies s h l m q i. r .pairs bytes G h .joined-itself a b c d buffer w tallies s l m (same-link q) i;
+  lone-group = λ r bytes G h i l s. let x = r .pairs bytes G h in (x .own-group i l s, λ j k u. x .holds-no-other i j l k s u);
+  no-more-at-2 = λ r bytes G h. r .pairs bytes G h .no-more;
+  each-named = λ r bytes G h. r .pairs bytes G h .named;
+  groups-at-2 = λ r bytes G h. r .pairs bytes G h .at-2;
+  C-at-2 = λ r bytes G h. r .pairs bytes G h .C-at-2;
+  joined-at-2 = λ r bytes G h. r .pairs bytes G h .joined-at-2;
+  B-up-to = λ r bytes G h. r .pairs bytes G h .up-to;
+  F-links = λ r bytes G h. r .pairs bytes G h .group-links;
+  index-room = λ r bytes G h. r .pairs bytes G h .room;
+  index-begins = λ r bytes G h. r .pairs bytes G h .begins;
+  kind-1-meets-7 = λ r bytes q. not-kind-1 r bytes q (pass-or-7 bytes);
+  links-begin = λ r. r .links-begin;
+  kind-7-links = λ b. refl;
+  index-written = λ x. refl;
+  file-written = λ n ps. refl;
+  file-read-back = λ G. refl;
+  lister-rows = λ G. refl;
+  lister-lines = λ rs. refl;
+  asked-B = λ G a b c d. refl;
+  asked-F = λ G k a b. refl;
+  asked-G = λ G k a b c d. refl;
   tallies-of-a-run = λ r. r;
   record-of-a-run = λ r. r;
   no-window = λ r. r .above;

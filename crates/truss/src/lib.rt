@@ -3,6 +3,7 @@ ghost use Rattle.truss.specs.Cases.{Cases, RuleCases, WindowCases, Field
 ghost use Rattle.truss.specs.StrengthCases.{StrengthCases};
 ghost use Rattle.truss.specs.ChainCases.{ChainCases};
 ghost use Rattle.truss.specs.OrderCases.{OrderCases};
+ghost use Rattle.truss.specs.LoneCases.{LoneCases};
 ghost use Rattle.truss.specs.WholeCalls.{WholeCalls};
 ghost use Rattle.truss.specs.DeskCases.{DeskCases};
 ghost use Rattle.truss.specs.ChangeCases.{ChangeCases};
@@ -10,7 +11,7 @@ ghost use Rattle.truss.specs.Figures.{Figures};
 ghost use Rattle.truss.specs.Spelled.{Spelled};
 
 pub fn definitions()
-    ensures { λ _. ⌜ Cases × RuleCases × WindowCases × FieldCases × StrengthCases × ChainCases × OrderCases × WholeCalls × DeskCases × ChangeCases × Figures × Spelled ⌝ }
+    ensures { λ _. ⌜ Cases × RuleCases × WindowCases × FieldCases × StrengthCases × ChainCases × OrderCases × LoneCases × WholeCalls × DeskCases × ChangeCases × Figures × Spelled ⌝ }
 {
     return;
 }
