@@ -9,17 +9,17 @@ use native.Mathlib.Omega.{arith}
 use lib.Dec.{eqb}
 use lib.ListN.{length}
 use borrow.Author.Tests.{eq-eqb, ne-eqb}
-use Rattle.truss.specs.Limits.{minLevel, noGroup}
+use Rattle.truss.specs.Limits.{noGroup}
 use Rattle.truss.specs.Index.{index}
 use Rattle.truss.specs.Stored.{Leads}
 use Rattle.truss.specs.Stored.{here as arrived}
 use Rattle.laws.proofs.Numbers.{same-or-not, less-or-not}
-use Rattle.laws.proofs.Groups.{size, strengthAt}
+use Rattle.laws.proofs.Groups.{size}
 use Rattle.laws.proofs.Stored.{groupCount, stored}
 use Rattle.laws.proofs.Tree.{parent-rises, group-rows-length}
 use Rattle.columns.specs.Columns.{cell, store, COLUMNS}
 use Rattle.columns.specs.Laws.{upd-store, length-store, kept-column, kept-entry}
-use Rattle.stored.specs.Rows.{graphIn, IsIndex, ownGroup, parentOf, proper, fits-groups, parent-cases, own-cases, Sized, sized-few}
+use Rattle.stored.specs.Rows.{graphIn, IsIndex, ownGroup, parentOf, proper, fits-groups, parent-cases, own-below, Sized, sized-few}
 use Rattle.counting.specs.Paths.{rising, onward, between, step-up, in-leads, leads-in}
 
 -- what the walk up asks of index and columns: c is the column that counts
@@ -107,21 +107,17 @@ pub record UpState (b : List ℕ) (m count c g r x : ℕ) (w₀ w : List ℕ) : 
   pub off : (h : ℕ) → h < count → ¬ (Leads (index (graphIn b)) g h) → Left m c h w₀ w
   pub place : (x ≡ noGroup) ⊎ Leads (index (graphIn b)) g x
 
-pub up-none : {b : List ℕ} {at m count c g r : ℕ} {w : List ℕ} → UpGiven b at m count c → (g ≡ noGroup) ⊎ (g < count) → UpState b m count c g r g w w
-up-none {b} {at} {m} {count} {c} {g} {r} {w} A p = record {
+pub up-none : {b : List ℕ} {at m count c g r : ℕ} {w : List ℕ} → UpGiven b at m count c → g < count → UpState b m count c g r g w w
+up-none {b} {at} {m} {count} {c} {g} {r} {w} A l = record {
   both = both-none;
-  done = λ h l v k. absurd (omega (arith, k, rising I v));
-  todo = λ h l v k. left-none;
-  off = λ h l n. left-none;
-  place = go p;
+  done = λ h lh v k. absurd (omega (arith, k, rising I v));
+  todo = λ h lh v k. left-none;
+  off = λ h lh n. left-none;
+  place = inr (arrived {g = g} (omega (arith, l, A .sized .groups, group-rows-length (graphIn b) (proper I) (fits-groups I))));
 }
   where
     I : IsIndex b
     I = A .sized .groups-at .is-index
-
-    go : (g ≡ noGroup) ⊎ (g < count) → (g ≡ noGroup) ⊎ Leads (index (graphIn b)) g g
-    go (inl e) = inl e
-    go (inr l) = inr (arrived {g = g} (omega (arith, l, A .sized .groups, group-rows-length (graphIn b) (proper I) (fits-groups I))))
 
 module _ {b : List ℕ} {at m count c g r x : ℕ} {w₀ w : List ℕ} (A : UpGiven b at m count c) (S : UpState b m count c g r x w₀ w) (n : x ≢ noGroup) where
   I : IsIndex b
@@ -245,13 +241,5 @@ link-gives {b} {at} {m} {count} {c} {i} {g} A l q U = record {
 abbrev pub Small : ℕ → ℕ → ℕ → List ℕ → Type 0
 Small m count c w = (h : ℕ) → h < count → cell w m c h < 65535
 
--- a group, or none
-abbrev pub UpFrom : ℕ → ℕ → Type 0
-UpFrom count g = (g ≡ noGroup) ⊎ (g < count)
-
-pub own-from : {b : List ℕ} {at m count c i g : ℕ} → UpGiven b at m count c → i < m → g ≡ ownGroup (graphIn b) i → UpFrom count g
-own-from {b} {at} {m} {count} {c} {i} {g} A l q = go (own-cases (A .sized .groups-at .is-index) i (omega (arith, l, A .sized .links)))
-  where
-    go : ((ownGroup (graphIn b) i < groupCount (graphIn b)) × (minLevel ≤ strengthAt (graphIn b) i)) ⊎ ((ownGroup (graphIn b) i ≡ noGroup) × (strengthAt (graphIn b) i < minLevel)) → UpFrom count g
-    go (inl (x, y)) = inr (omega (arith, x, q, A .sized .groups))
-    go (inr (x, y)) = inl (q ∙ x)
+pub own-from : {b : List ℕ} {at m count c i g : ℕ} → UpGiven b at m count c → i < m → g ≡ ownGroup (graphIn b) i → g < count
+own-from {b} {at} {m} {count} {c} {i} {g} A l q = omega (arith, q, own-below (A .sized .groups-at .is-index) i (omega (arith, l, A .sized .links)), A .sized .groups)

@@ -8,7 +8,7 @@ ghost use lib.ListN.{length};
 ghost use Rattle.truss.specs.Limits.{maxAccounts};
 ghost use Rattle.columns.specs.Columns.{cell, COLUMNS};
 ghost use Rattle.columns.specs.Wiping.{zeros};
-ghost use Rattle.counting.specs.Touching.{Closed, LinkGives, Small, TouchOne, UpFrom, UpGiven, UpGives};
+ghost use Rattle.counting.specs.Touching.{Closed, LinkGives, Small, TouchOne, UpGiven, UpGives};
 ghost use Rattle.counting.specs.Counting.{Round};
 ghost use Rattle.counting.specs.Ends.{AtHigher, ChainAsks, ChainAt, Chained, LowerGives};
 ghost use Rattle.counting.specs.Gives.{AccountsAsks, AccountsGive, Counted, CountGiven, Held, LinksAsks, LinksGive, RoundAsks};
@@ -78,7 +78,7 @@ fn touch_up(
     r: usize,
 )
     requires { ⌜ UpGiven (now s) at m count c ⌝ }
-    requires { ⌜ UpFrom count g ⌝ }
+    requires { ⌜ g < count ⌝ }
     requires { ⌜ length (now w) ≡ COLUMNS * m ⌝ }
     requires { ⌜ Small m count c (now w) ⌝ }
     requires { ⌜ Closed (now s) m count r (now w) ⌝ }

@@ -70,7 +70,6 @@ pub record GroupsTo (G : Graph) (o : InOrder G) (fits : size G ≤ noGroup) (m K
   pub leasts : (g : ℕ) → g < c → cell w m 13 g ≡ leastLink (stored G g)
   pub parents-so : (g : ℕ) → g < c → ParentSo G o fits K g (cell w m 12 g)
   pub owns : (i : ℕ) → i < m → K ≤ strengthAt G i → cell w m 8 i ≡ ownOf G o fits i
-  pub rest : (i : ℕ) → i < m → strengthAt G i < K → cell w m 8 i ≡ noGroup
   pub fresh : (r x : ℕ) → r < m → 0 < x → x < K → cell w m 15 r ≢ x
 
 pub groups-frame : {t : Columns} {G : Graph} {o : InOrder G} {fits : size G ≤ noGroup} {m K c : ℕ} {w w′ : List ℕ} → t 8 ≡ false → t 11 ≡ false → t 12 ≡ false → t 13 ≡ false → t 15 ≡ false
@@ -83,7 +82,6 @@ groups-frame {t} {G} {o} {fits} {m} {K} {c} {w} {w′} a b d e h sm f S = record
   leasts = λ g l. f .same 13 e g (below g l) ∙ S .leasts g l;
   parents-so = λ g l. subst (ParentSo G o fits K g) (sym (f .same 12 d g (below g l))) (S .parents-so g l);
   owns = λ i l s. f .same 8 a i l ∙ S .owns i l s;
-  rest = λ i l s. f .same 8 a i l ∙ S .rest i l s;
   fresh = λ r x l p q s. S .fresh r x l p q (sym (f .same 15 h r l) ∙ s);
 }
   where
@@ -149,7 +147,6 @@ module _ {m k c : ℕ} {w w₁ : List ℕ} (A : MarksGives m k m w w₁) where
         state = record {
           above = λ i l s. same8 i l ∙ P .owned .above i l s;
           here = λ i l s. absurd (omega arith);
-          below = λ i l s. same8 i l ∙ P .owned .below i l s;
         };
         ready = ready₂;
       }
@@ -222,7 +219,6 @@ module _ {m k c : ℕ} {w w₁ : List ℕ} (A : MarksGives m k m w w₁) where
             leasts = λ g l. D .steady .frame .same 13 refl g (below g l) ∙ C .steady .frame .same 13 refl g (below g l) ∙ numbered₂ P .leasts g l;
             parents-so = λ g l. parent-of g l (less-or-not g c);
             owns = λ i l s. own-of i l s (same-or-not (strengthAt G i) k);
-            rest = λ i l s. D .steady .frame .same 8 refl i l ∙ owned .below i l s;
             fresh = λ r x l p q s. ready₂ P .marked .fresh r x l p q (sym (D .steady .frame .same 15 refl r l ∙ C .steady .frame .same 15 refl r l) ∙ s);
           }
 

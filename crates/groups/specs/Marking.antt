@@ -7,6 +7,7 @@ use Prim.Native.Nat.{ℕ, suc, _+_, _*_, _≤_, _<_}
 use native.Mathlib.Omega.{arith}
 use lib.Dec.{eqb}
 use lib.ListN.{length}
+use Rattle.truss.specs.Limits.{minLevel}
 use Rattle.truss.specs.Graph.{Graph}
 use Rattle.truss.specs.Group.{labelsAt}
 use Rattle.laws.proofs.UnionFind.{Down}
@@ -48,7 +49,7 @@ pub record AtLevel (G : Graph) (m n k : ℕ) (w : List ℕ) : Type 0 where
   pub given : Given G m n w
   pub down : Down (parents w m)
   pub keeps : Keeps m (parents w m) (labelsAt G k)
-  pub three : 3 ≤ k
+  pub level : minLevel ≤ k
   pub light : k ≤ 65535
 
 pub at-steady : {t : Columns} {G : Graph} {m n k : ℕ} {w w′ : List ℕ} → t 0 ≡ false → t 4 ≡ false → Steady t m w w′ → AtLevel G m n k w → AtLevel G m n k w′
@@ -56,7 +57,7 @@ at-steady a b s L = record {
   given = given-frame a b (s .frame) (L .given);
   down = s .down (L .down);
   keeps = λ x l. s .same-root (L .down) x ∙ L .keeps x l;
-  three = L .three;
+  level = L .level;
   light = L .light;
 }
 
@@ -169,7 +170,7 @@ pub marks-none : {m k : ℕ} {w : List ℕ} → MarksGives m k 0 w w
 marks-none {m} {k} {w} = record {
   steady = steady-none marking m w;
   state = λ G n P. record {
-    sound = λ r l q. absurd (P .fresh r k l (omega (arith, P .at .three)) (omega arith) q);
+    sound = λ r l q. absurd (P .fresh r k l (omega (arith, P .at .level)) (omega arith) q);
     complete = λ i l q. absurd (omega arith);
     fresh = λ r x l a b q. P .fresh r x l a (omega arith) q;
   };

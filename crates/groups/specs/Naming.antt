@@ -46,7 +46,6 @@ ready-steady {t} {G} {o} {m} {n} {k} {w} {w′} a b c d s R = record {
 pub record Owned (G : Graph) (o : InOrder G) (fits : size G ≤ noGroup) (m k e : ℕ) (w : List ℕ) : Type 0 where
   pub above : (i : ℕ) → i < m → k < strengthAt G i → cell w m 8 i ≡ ownOf G o fits i
   pub here : (i : ℕ) → i < e → strengthAt G i ≡ k → cell w m 8 i ≡ ownOf G o fits i
-  pub below : (i : ℕ) → i < m → strengthAt G i < k → cell w m 8 i ≡ noGroup
 
 pub record NamePre (G : Graph) (o : InOrder G) (fits : size G ≤ noGroup) (m n e k : ℕ) (w : List ℕ) : Type 0 where
   pub state : Owned G o fits m k e w
@@ -64,7 +63,7 @@ pub name-passed : {m e k x : ℕ} {w : List ℕ} → x ≡ cell w m 4 e → x �
 name-passed {m} {e} {k} {x} {w} ex ne = record { steady = steady-none naming m w; state = λ G n o fits P. at G n o fits P }
   where
     at : (G : Graph) (n : ℕ) (o : InOrder G) (fits : size G ≤ noGroup) → NamePre G o fits m n e k w → Owned G o fits m k (e + 1) w
-    at G n o fits P = record { above = P .state .above; here = λ i l q. go i l q (same-or-not i e); below = P .state .below }
+    at G n o fits P = record { above = P .state .above; here = λ i l q. go i l q (same-or-not i e) }
       where
         go : (i : ℕ) → i < e + 1 → strengthAt G i ≡ k → (i ≡ e) ⊎ (i ≢ e) → cell w m 8 i ≡ ownOf G o fits i
         go i l q (inl t) = absurd (ne (ex ∙ P .ready .at .given .strengths e (P .e-in) ∙ ap (strengthAt G) (sym t) ∙ q))
@@ -87,7 +86,7 @@ module _ {m e k x r : ℕ} {w w₁ : List ℕ} (ex : x ≡ cell w m 4 e) (q : x 
 
     own-is : {g : ℕ} → g ≡ cell w₁ m 14 r → g ≡ ownOf G o fits e
     own-is {g} eg =
-        let S = own-group G o fits e (omega (arith, P .e-in, P .ready .at .given .count)) (omega (arith, strong, P .ready .at .three)) in
+        let S = own-group G o fits e (omega (arith, P .e-in, P .ready .at .given .count)) (omega (arith, strong, P .ready .at .level)) in
         group-once G o (name-group eg) (record {
           counted = S .counted;
           strength-is = S .strength-is ∙ strong;
@@ -113,7 +112,6 @@ module _ {m e k x r : ℕ} {w w₁ : List ℕ} (ex : x ≡ cell w m 4 e) (q : x 
       at G n o fits P = record {
         above = λ i l s. else i l (λ t. omega (arith, s, ap (strengthAt G) t, strong P)) ∙ P .state .above i l s;
         here = λ i l s. go i l s (same-or-not i e);
-        below = λ i l s. else i l (λ t. omega (arith, s, ap (strengthAt G) t, strong P)) ∙ P .state .below i l s;
       }
         where
           go : (i : ℕ) → i < e + 1 → strengthAt G i ≡ k → (i ≡ e) ⊎ (i ≢ e) → cell (store w₁ m 8 e g) m 8 i ≡ ownOf G o fits i

@@ -80,7 +80,7 @@ number-is {G} {m} {n} {r} {k} {c} {x} {o} {fits} {w} P ex q = at (P .marked .sou
     at : (i : ℕ) × (i < m) × (strengthAt G i ≡ k) × (rootIs G k i ≡ r) → IsGroup G o k r c
     at (i, l, s, t) =
         let M : Marked G o k r = record { link = i; link-in = omega (arith, l, P .at .given .count); strength-is = s; root-is = t } in
-        let S = marked-stored G o fits (P .at .three) M in
+        let S = marked-stored G o fits (P .at .level) M in
         subst (IsGroup G o k r) (sym (counted-next G o (P .state .counted) (S .1))) (S .1)
 
 pub number-room : {G : Graph} {m n r k c x : ℕ} {o : InOrder G} {fits : size G ≤ noGroup} {w : List ℕ} → NumberPre G o fits m n r k c w → x ≡ cell w m 15 r → x ≡ k → c < m

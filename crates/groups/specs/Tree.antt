@@ -6,7 +6,7 @@ use Prim.Native.Nat.{ℕ, suc, _+_, _-_, _≤_, _<_}
 use native.Mathlib.Nat.{le-refl}
 use native.Mathlib.Omega.{arith}
 use lib.ListN.{length}
-use Rattle.truss.specs.Limits.{noGroup}
+use Rattle.truss.specs.Limits.{minLevel, noGroup}
 use Rattle.truss.specs.Graph.{Graph, linkAt}
 use Rattle.truss.specs.Forest.{forest}
 use Rattle.truss.specs.Group.{leastLink}
@@ -14,12 +14,15 @@ use Rattle.laws.proofs.Peeling.{strength-at-most}
 use Rattle.laws.proofs.Groups.{size, strengthAt}
 use Rattle.laws.proofs.Stored.{groupCount, stored}
 use Rattle.laws.proofs.Sides.{InOrder}
-use Rattle.laws.proofs.GroupPlaces.{stored-marked, stored-most, stored-three, counted-first, counted-lower, counted-end, parent-weaker, parent-end, parentOf, ownOf, own-none}
+use Rattle.laws.proofs.Tree.{own-strong}
+use Rattle.laws.proofs.Kruskal.{spot}
+use Rattle.laws.proofs.GroupPlaces.{stored-marked, stored-most, stored-level, counted-first, counted-lower, counted-end, parent-weaker, parent-end, parentOf, ownOf}
 use Rattle.columns.specs.Columns.{cell}
 use Rattle.laws.proofs.Numbers.{less-or-not}
-use Rattle.unions.specs.State.{Given, taken, growth-steady}
+use Rattle.unions.specs.State.{Given, Growth, taken, taken-frame, growth-steady}
 use Rattle.forest.specs.Rows.{Rows, RowsPre, RowsGives}
-use Rattle.forest.specs.Level.{Between, Top, LevelPre, LevelGives, Prepared, between-first, between-level, level-between, between-labels, between-strength, between-end}
+use Rattle.forest.specs.Level.{Between, Top, LevelPre, LevelGives, Prepared, between-first, between-level, level-between, between-labels, between-all, between-strength, between-end}
+use Rattle.groups.specs.Marking.{AtLevel}
 use Rattle.groups.specs.Level.{GroupsTo, groups-frame, GroupPre, GroupGives}
 
 -- between two levels: the joins and the groups of weight and strength K and more are there; k is the next weight
@@ -29,6 +32,7 @@ pub record TreeAt (G : Graph) (o : InOrder G) (fits : size G ≤ noGroup) (m n k
   pub groups-to : GroupsTo G o fits m K c w
   pub top : Top m m k w
   pub less : k < K
+  pub above : minLevel < K
   pub most : K ≤ 65536
 
 -- ---- the start
@@ -42,7 +46,6 @@ groups-first {G} {o} {fits} {m} {n} {w} {w′} d P = record {
   leasts = λ g l. absurd (omega arith);
   parents-so = λ g l. absurd (omega arith);
   owns = λ i l s. absurd (omega (arith, s, strength-at-most G (linkAt G i), d .accounts, d .small));
-  rest = λ i l s. P .no-groups i l;
   fresh = λ r x l p q s. omega (arith, p, s, P .no-marks r l);
 }
 
@@ -76,6 +79,7 @@ levels-first {G} {o} {fits} {m} {n} {k} {w} P T = record {
   groups-to = P .groups-to;
   top = T;
   less = omega (arith, T .least 65535 (λ y l. let r = P .between .next y l .less in omega arith));
+  above = omega arith;
   most = le-refl 65536;
 }
 
@@ -85,18 +89,45 @@ module _ {G : Graph} {o : InOrder G} {fits : size G ≤ noGroup} {m n k j c : �
   pub tree-given : Given G m n w
   tree-given = S .between .growth .given
 
-  -- no strength lies between k and K
-  gap : (i : ℕ) → i < m → 3 ≤ strengthAt G i → strengthAt G i < S .K → strengthAt G i ≤ k
-  gap i l a b = between-strength (S .between) (S .top) i l a b
+  -- level x is next: no triangle has a weight between x and K
+  module _ {x : ℕ} (low : k ≤ x) (level : minLevel ≤ x) (less : x < S .K) where
+    -- no strength lies between x and K: from 3 up it is the weight of a join
+    gap : (i : ℕ) → i < m → strengthAt G i < S .K → strengthAt G i ≤ x
+    gap i l b = go (less-or-not (strengthAt G i) 3)
+      where
+        go : (strengthAt G i < 3) ⊎ (3 ≤ strengthAt G i) → strengthAt G i ≤ x
+        go (inl a) = omega (arith, a, level)
+        go (inr a) = omega (arith, low, between-strength (S .between) (S .top) i l a b)
 
-  group-gap : (g : ℕ) → g < groupCount G → stored G g .strength < S .K → stored G g .strength ≤ k
-  group-gap g l b =
-      let M = stored-marked G o g l in
-      let e = M .strength-is in
-      let a = stored-three G o g l in
-      omega (arith, e, gap (M .link) (omega (arith, M .link-in, tree-given .count)) (omega (arith, a, e)) (omega (arith, b, e)))
+    group-gap : (g : ℕ) → g < groupCount G → stored G g .strength < S .K → stored G g .strength ≤ x
+    group-gap g l b =
+        let M = stored-marked G o g l in
+        let e = M .strength-is in
+        omega (arith, e, gap (M .link) (omega (arith, M .link-in, tree-given .count)) (omega (arith, b, e)))
 
-  pub tree-level : {row mark : List ℕ} → 3 ≤ k → Rows G m n row → G .n ≤ length mark → LevelPre G m n k j w row mark
+    next-groups : {w₁ : List ℕ} → AtLevel G m n x w₁ → GroupsTo G o fits m (S .K) c w₁ → GroupPre G o fits m n x c w₁
+    next-groups L A = record {
+      at = L;
+      numbered = record {
+        counted = counted-lower G o (A .counted) (A .light) less group-gap;
+        strengths = A .strengths;
+        leasts = A .leasts;
+        parents-so = λ g l. parent-weaker G o fits (omega (arith, l, A .counted .within)) less (λ h lh a b. strong h lh a (less-or-not (stored G h .strength) (S .K))) (A .parents-so g l);
+        numbers = λ y l q. absurd (omega arith);
+      };
+      owned = record { above = λ i l s. A .owns i l (high i l s (less-or-not (strengthAt G i) (S .K))); here = λ i l s. absurd (omega arith) };
+      fresh = λ r y l p q. A .fresh r y l p (omega (arith, q, less));
+    }
+      where
+        strong : (h : ℕ) → h < groupCount G → suc x ≤ stored G h .strength → (stored G h .strength < S .K) ⊎ (S .K ≤ stored G h .strength) → S .K ≤ stored G h .strength
+        strong h lh a (inl b) = absurd (omega (arith, a, group-gap h lh b))
+        strong h lh a (inr b) = b
+
+        high : (i : ℕ) → i < m → x < strengthAt G i → (strengthAt G i < S .K) ⊎ (S .K ≤ strengthAt G i) → S .K ≤ strengthAt G i
+        high i l s (inl b) = absurd (omega (arith, s, gap i l b))
+        high i l s (inr b) = b
+
+  pub tree-level : {row mark : List ℕ} → minLevel < k → Rows G m n row → G .n ≤ length mark → LevelPre G m n k j w row mark
   tree-level three R wide = record {
     start = between-level (S .between) (S .top) (S .less);
     rows = R;
@@ -105,45 +136,15 @@ module _ {G : Graph} {o : InOrder G} {fits : size G ≤ noGroup} {m n k j c : �
     some = omega arith;
   }
 
-  module _ (three : 3 ≤ k) {j₁ : ℕ} {w₁ row mark : List ℕ} (R : Rows G m n row) (wide : G .n ≤ length mark) (L : LevelGives m n k j j₁ w w₁ row mark) where
+  module _ (three : minLevel < k) {j₁ : ℕ} {w₁ row mark : List ℕ} (R : Rows G m n row) (wide : G .n ≤ length mark) (L : LevelGives m n k j j₁ w w₁ row mark) where
     between₁ : Between G m n k j₁ w₁
     between₁ = level-between (L .state G (tree-level three R wide))
 
-    groups₁ : GroupsTo G o fits m (S .K) c w₁
-    groups₁ = groups-frame refl refl refl refl refl (tree-given .count) (L .frame) (S .groups-to)
-
     pub tree-group : GroupPre G o fits m n k c w₁
-    tree-group = record {
-      at = record {
-        given = between₁ .growth .given;
-        down = between₁ .growth .down;
-        keeps = between-labels between₁;
-        three = three;
-        light = omega (arith, S .less, S .most);
-      };
-      numbered = record {
-        counted = counted-lower G o (groups₁ .counted) (groups₁ .light) (S .less) group-gap;
-        strengths = groups₁ .strengths;
-        leasts = groups₁ .leasts;
-        parents-so = λ g l.
-            parent-weaker G o fits (omega (arith, l, groups₁ .counted .within)) (S .less) (λ h lh a b. strong h lh a (less-or-not (stored G h .strength) (S .K))) (groups₁ .parents-so g l);
-        numbers = λ y l q. absurd (omega arith);
-      };
-      owned = record {
-        above = λ i l s. groups₁ .owns i l (high i l s (less-or-not (strengthAt G i) (S .K)));
-        here = λ i l s. absurd (omega arith);
-        below = λ i l s. groups₁ .rest i l (omega (arith, s, S .less));
-      };
-      fresh = λ r x l p q. groups₁ .fresh r x l p (omega (arith, q, S .less));
-    }
-      where
-        strong : (h : ℕ) → h < groupCount G → suc k ≤ stored G h .strength → (stored G h .strength < S .K) ⊎ (S .K ≤ stored G h .strength) → S .K ≤ stored G h .strength
-        strong h lh a (inl b) = absurd (omega (arith, a, group-gap h lh b))
-        strong h lh a (inr b) = b
-
-        high : (i : ℕ) → i < m → k < strengthAt G i → (strengthAt G i < S .K) ⊎ (S .K ≤ strengthAt G i) → S .K ≤ strengthAt G i
-        high i l s (inl b) = absurd (omega (arith, s, gap i l (omega (arith, s, three)) b))
-        high i l s (inr b) = b
+    tree-group =
+        next-groups (le-refl k) (omega (arith, three)) (S .less)
+        (record { given = between₁ .growth .given; down = between₁ .growth .down; keeps = between-labels between₁; level = omega (arith, three); light = omega (arith, S .less, S .most) })
+        (groups-frame refl refl refl refl refl (tree-given .count) (L .frame) (S .groups-to))
 
     module _ {c₂ k₂ : ℕ} {w₂ : List ℕ} (D : GroupGives m k c c₂ w₁ w₂) (T : Top m m k₂ w₂) where
       between₂ : Between G m n k j₁ w₂
@@ -165,31 +166,36 @@ module _ {G : Graph} {o : InOrder G} {fits : size G ≤ noGroup} {m n k j c : �
         groups-to = D .state G n o fits tree-group;
         top = T;
         less = tree-less;
+        above = three;
         most = omega (arith, S .less, S .most);
       }
 
-  -- ---- the end
+  -- ---- the end: no weight is left, and the links of strength 2 are groups of their own
 
-  pub tree-end : k < 3 → TreeDone G o fits m n j c w
-  tree-end low = record {
-    given = tree-given;
-    within = S .between .growth .within;
-    forest-is = between-end (S .between) (S .top) low;
-    count = counted-end G o (S .groups-to .counted) (λ g l b. let a = stored-three G o g l in omega (arith, low, a, group-gap g l (S .groups-to .light g l b)));
-    strengths = S .groups-to .strengths;
-    leasts = S .groups-to .leasts;
-    parents-are = λ g l. sym (parent-end G o fits (omega (arith, l, S .groups-to .counted .within)) (λ h lh. complete h lh (less-or-not (stored G h .strength) (S .K))) (S .groups-to .parents-so g l));
-    owns = λ i l. own i l (less-or-not (strengthAt G i) (S .K)) (less-or-not (strengthAt G i) 3);
-  }
-    where
-      complete : (h : ℕ) → h < groupCount G → (stored G h .strength < S .K) ⊎ (S .K ≤ stored G h .strength) → S .K ≤ stored G h .strength
-      complete h lh (inl b) = let a = stored-three G o h lh in absurd (omega (arith, low, a, group-gap h lh b))
-      complete h lh (inr b) = b
+  module _ (low : k ≤ minLevel) where
+    pub tree-lone : GroupPre G o fits m n minLevel c w
+    tree-lone =
+        next-groups low (le-refl minLevel) (S .above)
+        (record { given = tree-given; down = S .between .growth .down; keeps = between-all (S .between) (S .top) (omega (arith, low)) (S .above); level = le-refl minLevel; light = omega arith })
+        (S .groups-to)
 
-      own : (i : ℕ) → i < m → (strengthAt G i < S .K) ⊎ (S .K ≤ strengthAt G i) → (strengthAt G i < 3) ⊎ (3 ≤ strengthAt G i) → cell w m 8 i ≡ ownOf G o fits i
-      own i l (inr b) t = S .groups-to .owns i l b
-      own i l (inl b) (inl t) = S .groups-to .rest i l b ∙ sym (own-none G o fits i (omega (arith, l, tree-given .count)) t)
-      own i l (inl b) (inr t) = absurd (omega (arith, low, t, gap i l t b))
+    pub tree-end : {c₂ : ℕ} {w₂ : List ℕ} → GroupGives m minLevel c c₂ w w₂ → TreeDone G o fits m n j c₂ w₂
+    tree-end {c₂} {w₂} D = record {
+      given = grown .given;
+      within = grown .within;
+      forest-is = taken-frame refl refl (D .steady .frame) (grown .within) ∙ between-end (S .between) (S .top) (omega (arith, low));
+      count = counted-end G o (A .counted) (λ g l b. omega (arith, A .light g l b, stored-level G o g l));
+      strengths = A .strengths;
+      leasts = A .leasts;
+      parents-are = λ g l. sym (parent-end G o fits (omega (arith, l, A .counted .within)) (stored-level G o) (A .parents-so g l));
+      owns = λ i l. A .owns i l (own-strong G (o .proper) fits i (omega (arith, l, tree-given .count)));
+    }
+      where
+        grown : Growth G m n (spot (S .K) (S .between .at) 0) j w₂
+        grown = growth-steady refl refl refl refl (D .steady) (S .between .growth)
+
+        A : GroupsTo G o fits m minLevel c₂ w₂
+        A = D .state G n o fits tree-lone
 
 -- ---- with account-sized memory lent
 

@@ -32,7 +32,7 @@ pub struct Sizes {
     pub groups: usize,
 }
 
-// All levels, by falling weight.
+// All levels, by falling weight; then the links that are in no triangle, each a group of its own.
 fn levels(w: &mut [u32], m: usize, n: usize, row: &[u32], mark: &mut [u32]) -> Sizes
     requires { ⌜ LevelsAsks m n (now w) (now row) (now mark) ⌝ }
     ensures { λ r. ⌜ LevelsGives m n (r .joins) (r .groups) (now (w .entry)) (now (w .exit)) (now (row .entry)) (now (mark .entry)) ⌝ }
@@ -40,11 +40,12 @@ fn levels(w: &mut [u32], m: usize, n: usize, row: &[u32], mark: &mut [u32]) -> S
     let mut joins: usize = 0;
     let mut groups: usize = 0;
     let mut k = top(w, m);
-    while LEAST_LEVEL <= k {
+    while LEAST_LEVEL < k {
         joins = level(w, m, n, row, mark, k, joins);
         groups = group(w, m, k, groups);
         k = top(w, m);
     }
+    groups = group(w, m, LEAST_LEVEL, groups);
     Sizes {
         joins: joins,
         groups: groups,

@@ -7,20 +7,20 @@ use mathlib.Core.List.{List·Memᴰ as In}
 use Prim.Native.Nat.{ℕ, zero, _+_, _*_, _-_, _≤_, _<_}
 use native.Mathlib.Omega.{arith}
 use lib.ListN.{length, set}
-use Rattle.truss.specs.Limits.{minLevel, noGroup, maxAccounts, maxLinks, maxNamed}
+use Rattle.truss.specs.Limits.{noGroup, maxAccounts, maxLinks, maxNamed}
 use Rattle.truss.specs.Record.{fieldAt}
 use Rattle.truss.specs.Graph.{Graph, linkAt}
 use Rattle.truss.specs.Question.{accountsIn, holdsAll}
 use Rattle.laws.proofs.Numbers.{same-or-not, less-or-not}
 use Rattle.laws.proofs.Members.{getD-in, in-member}
-use Rattle.laws.proofs.Groups.{size, strengthAt}
+use Rattle.laws.proofs.Groups.{size}
 use Rattle.laws.proofs.Stored.{groupCount, stored}
 use Rattle.laws.proofs.Tree.{parent-rises}
 use Rattle.columns.specs.Columns.{cell, store, COLUMNS}
 use Rattle.columns.specs.Laws.{Upd, Same, upd-store, same-store, length-store, stored as stored-cell, kept-entry, kept-column}
 use Rattle.columns.specs.Wiping.{Wiped, wiped-still, zeros, zeros-length, zeros-cell}
 use Rattle.index.specs.declared.open.Outline.{Outline}
-use Rattle.stored.specs.Rows.{graphIn, IsIndex, GroupsAt, Outlined, ownGroup, parentOf, proper, fits-groups, few, few-links, few-accounts, parent-cases, own-cases, Sized, shape-sized, sized-few}
+use Rattle.stored.specs.Rows.{graphIn, IsIndex, GroupsAt, Outlined, ownGroup, parentOf, proper, fits-groups, few, few-links, few-accounts, parent-cases, own-below, Sized, shape-sized, sized-few}
 use Rattle.holding.specs.Marks.{Marks, marks-none, marks-as, marks-set}
 use Rattle.holding.specs.Ranks.{rankIn, Before, Ranks, ranks-again, ranks-new, before-in}
 use Rattle.holding.specs.Held.{Own, HeldBy, Lifted, lifted-held, held-lifted, all-held, held-all}
@@ -203,31 +203,14 @@ module _ {b : List ℕ} {m count d : ℕ} {ranks : List ℕ} (A : MarkGiven b m 
   own-first : (c g : ℕ) → Own (graphIn b) ranks c i g → Own (graphIn b) ranks c (i + 1) g
   own-first c g (j, lj, o, r) = (j, omega (arith, lj), o, r)
 
-  -- a link without a group
-  pub own-skip : {g : ℕ} → g ≡ ownGroup (graphIn b) i → g ≡ noGroup → OwnMarks b m count d ranks (i + 1) w
-  own-skip {g} q e = record { within = O .within; marks = λ c h. marks-as (O .marks c h) (λ x k. refl) (λ x k p. own-first c x p) (λ x k p. back c x k p) }
-    where
-      back : (c x : ℕ) → x < count → Own (graphIn b) ranks c (i + 1) x → Own (graphIn b) ranks c i x
-      back c x k (j, lj, o, r) = go (same-or-not j i)
-        where
-          go : (j ≡ i) ⊎ (j ≢ i) → Own (graphIn b) ranks c i x
-          go (inl s) =
-              let n : x ≡ noGroup = sym o ∙ ap (ownGroup (graphIn b)) s ∙ sym q ∙ e in
-              absurd (omega (arith, n, k, few-in A, few-all A))
-          go (inr s) = (j, omega (arith, lj, s), o, r)
+  pub own-in : {g : ℕ} → g ≡ ownGroup (graphIn b) i → g < count
+  own-in q = omega (arith, q, own-below (A .is-index) i li, A .groups)
 
-  pub own-in : {g : ℕ} → g ≡ ownGroup (graphIn b) i → g ≢ noGroup → g < count
-  own-in {g} q n = go (own-cases (A .is-index) i li)
-    where
-      go : ((ownGroup (graphIn b) i < groupCount (graphIn b)) × (minLevel ≤ strengthAt (graphIn b) i)) ⊎ ((ownGroup (graphIn b) i ≡ noGroup) × (strengthAt (graphIn b) i < minLevel)) → g < count
-      go (inl (x, y)) = omega (arith, x, q, A .groups)
-      go (inr (x, y)) = absurd (n (q ∙ x))
-
-  -- a link with one: its ends mark it
-  pub own-more : {g lo hi rl rh : ℕ} {w₁ w₂ : List ℕ} → g ≡ ownGroup (graphIn b) i → g ≢ noGroup → lo ≡ linkAt (graphIn b) i .lo → hi ≡ linkAt (graphIn b) i .hi
+  -- its ends mark the group that it names
+  pub own-more : {g lo hi rl rh : ℕ} {w₁ w₂ : List ℕ} → g ≡ ownGroup (graphIn b) i → lo ≡ linkAt (graphIn b) i .lo → hi ≡ linkAt (graphIn b) i .hi
       → rl ≡ rankIn ranks lo → rh ≡ rankIn ranks hi → Marked m g rl w w₁ → Marked m g rh w₁ w₂ → OwnMarks b m count d ranks (i + 1) w₂
-  own-more {g} {lo} {hi} {rl} {rh} {w₁} {w₂} q n ql qh el eh K₁ K₂ = record {
-    within = K₂ .keeps d count (omega (arith, eh, A .most hi (omega (arith, qh, ends .1)))) (own-in q n) (K₁ .keeps d count (omega (arith, el, A .most lo (omega (arith, ql, ends .0)))) (own-in q n) (O .within));
+  own-more {g} {lo} {hi} {rl} {rh} {w₁} {w₂} q ql qh el eh K₁ K₂ = record {
+    within = K₂ .keeps d count (omega (arith, eh, A .most hi (omega (arith, qh, ends .1)))) (own-in q) (K₁ .keeps d count (omega (arith, el, A .most lo (omega (arith, ql, ends .0)))) (own-in q) (O .within));
     marks = λ c h. marks-as (marked-marks c (few-in A) (marked-marks c (few-in A) (O .marks c h) K₁) K₂) (λ x k. refl) (λ x k p. to c x p) (λ x k p. back c x p);
   }
     where

@@ -40,9 +40,6 @@ fn mark_link(s: &[u8], w: &mut [u32], m: usize, count: usize, d: usize, ranks: &
     ensures { λ _. ⌜ OwnMarks (now (s .entry)) m count d (now (ranks .entry)) (i + 1) (now (w .exit)) ⌝ }
 {
     let g = link_group(s, i);
-    if g == NO_GROUP {
-        return;
-    }
     let a = link_lower(s, i);
     let b = link_higher(s, i);
     let p = ranks[a] as usize;

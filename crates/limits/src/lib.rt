@@ -12,7 +12,7 @@ pub const MOST_LINKS: usize = 2048;
 // The most accounts that a question names.
 pub const MOST_NAMED: usize = 16;
 
-// No group: the group of a link of strength 2, and the parent of a group that no other contains.
+// No group: the parent of a group that no other contains. No record of a link has it; in the code it is also the group at k of a link that is weaker than k.
 pub const NO_GROUP: usize = 65535;
 
 // Where a tally rests, and its bytes in a desk record.
@@ -59,8 +59,8 @@ impl Strength {
     }
 }
 
-// The least level at which links are joined; the greatest is the greatest strength.
-pub const LEAST_LEVEL: usize = Strength::MIN.0 + 1;
+// The least level at which there are groups is the least strength, at which a link is a group of its own; the greatest is the greatest strength.
+pub const LEAST_LEVEL: usize = Strength::MIN.0;
 
 // Refusal 10: no level.
 pub fn bad_level(k: usize) -> bool

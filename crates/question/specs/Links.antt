@@ -28,7 +28,7 @@ use Rattle.laws.proofs.Proper.{Proper}
 use Rattle.laws.proofs.Peeling.{strength-at-most}
 use Rattle.laws.proofs.Answers.{not-outside}
 use Rattle.laws.proofs.Support.{strength-outside, strength-no-link, strength-answer}
-use Rattle.laws.proofs.Groups.{size, strengthAt, groupAt-eq, groupAt-none, group-strong}
+use Rattle.laws.proofs.Groups.{size, strengthAt, groupAt-eq, groupAt-none, group-self, group-strong}
 use Rattle.laws.proofs.Stored.{groupCount}
 use Rattle.columns.specs.Columns.{cell, store, COLUMNS}
 use Rattle.columns.specs.Laws.{upd-store, length-store}
@@ -178,12 +178,12 @@ module _ {b : List ℕ} (I : IsIndex b) {k i j : ℕ} (level : minLevel ≤ k) (
       go (inl t) = absurd (n (any-number j (groupAt G k i) t))
       go (inr f) = f
 
-  pub joined-none : {g : ℕ} → g ≡ groupOf G (groups G) k i → g ≡ noGroup → false ≡ any (eqb j) (groupAt G k i)
-  joined-none q e = sym (any-false (not-in-none q e))
-
-  pub joined-by : {g h : ℕ} → g ≡ groupOf G (groups G) k i → g ≢ noGroup → h ≡ groupOf G (groups G) k j → eqb g h ≡ any (eqb j) (groupAt G k i)
-  joined-by {g} {h} q n r = go (same-or-not g h)
+  pub joined-by : {g h : ℕ} → k ≤ strengthAt G i → g ≡ groupOf G (groups G) k i → h ≡ groupOf G (groups G) k j → eqb g h ≡ any (eqb j) (groupAt G k i)
+  joined-by {g} {h} s q r = go (same-or-not g h)
     where
+      n : g ≢ noGroup
+      n e = group-some G (proper I) (fits-groups I) k i i level li li (group-self G k i li s) (sym q ∙ e)
+
       go : (g ≡ h) ⊎ (g ≢ h) → eqb g h ≡ any (eqb j) (groupAt G k i)
       go (inl e) = eq-eqb g h e ∙ sym (in-any (eqb j) (groupAt G k i) (in-same q r n (sym e)) (eq-eqb j j refl))
       go (inr ne) = borrow.Author.Tests.ne-eqb g h ne ∙ sym (any-false (not-in-other q r (λ e. ne (sym e))))

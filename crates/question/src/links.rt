@@ -7,7 +7,7 @@ ghost use Rattle.truss.specs.Limits.{minLevel};
 ghost use Rattle.truss.specs.Lists.{any};
 ghost use Rattle.truss.specs.Group.{groupAt};
 ghost use Rattle.truss.specs.Question.{ask-joined, ask-links, ask-strength};
-ghost use Rattle.laws.proofs.Groups.{size};
+ghost use Rattle.laws.proofs.Groups.{size, strengthAt};
 ghost use Rattle.columns.specs.Columns.{COLUMNS};
 ghost use Rattle.stored.specs.Rows.{IsIndex, Outlined, graphIn};
 ghost use Rattle.question.specs.Replies.{Answers};
@@ -62,18 +62,16 @@ pub fn strength_of(s: &[u8], o: Outline, a: usize, b: usize) -> Reply
     strength_and_support(s, o.m, e)
 }
 
-// Whether link f is in the group at k with link e.
+// Whether link f is in the group at k with link e, which has one: its strength is k or more.
 fn in_one_group(s: &[u8], at: usize, count: usize, k: usize, e: usize, f: usize) -> bool
     requires { ⌜ GroupsGiven (now s) at count ⌝ }
     requires { ⌜ minLevel ≤ k ⌝ }
     requires { ⌜ e < size (graphIn (now s)) ⌝ }
     requires { ⌜ f < size (graphIn (now s)) ⌝ }
+    requires { ⌜ k ≤ strengthAt (graphIn (now s)) e ⌝ }
     ensures { λ r. ⌜ r ≡ any (eqb f) (groupAt (graphIn (now (s .entry))) k e) ⌝ }
 {
     let g = group_at(s, at, count, k, e);
-    if g == NO_GROUP {
-        return false;
-    }
     g == group_at(s, at, count, k, f)
 }
 

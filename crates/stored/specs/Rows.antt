@@ -5,14 +5,14 @@ use mathlib.Core.Bool.{Bool, true, false, cond}
 use mathlib.Core.List.{List}
 use Prim.Native.Nat.{ℕ, _+_, _*_, _/_, _%_, _≤_, _<_}
 use native.Mathlib.Omega.{arith}
-use lib.Dec.{leb, ltb}
+use lib.Dec.{ltb}
 use lib.ListN.{length, getD, length-map}
-use borrow.Author.Tests.{leb-true, leb-false, ltb-true}
-use Rattle.truss.specs.Limits.{minStrength, maxStrength, minLevel, noGroup, maxAccounts, maxLinks}
+use borrow.Author.Tests.{ltb-true}
+use Rattle.truss.specs.Limits.{minStrength, maxStrength, noGroup, maxAccounts, maxLinks}
 use Rattle.truss.specs.Lists.{position, range}
 use Rattle.truss.specs.Graph.{Graph, graphOf, link, linkAt}
 use Rattle.truss.specs.Strength.{strength}
-use Rattle.truss.specs.Group.{Group, leastLink, groupNumber, groups, groupOf, parent}
+use Rattle.truss.specs.Group.{Group, leastLink, groupNumber, groups, parent}
 use Rattle.truss.specs.Refusal.{passed}
 use Rattle.truss.specs.Record.{kindIndexHead, byteAt, fieldAt}
 use Rattle.truss.specs.Index.{Index, LinkRow, GroupRow, linkRow, groupRow, index, indexBytes, encode}
@@ -27,7 +27,7 @@ use Rattle.laws.proofs.Proper.{Proper}
 use Rattle.laws.proofs.Sides.{InOrder}
 use Rattle.laws.proofs.Groups.{size, strengthAt}
 use Rattle.laws.proofs.Stored.{groupCount, stored, few-groups}
-use Rattle.laws.proofs.Tree.{rows-length, row-at, group-rows-length, group-row-at, own, own-is, number-is}
+use Rattle.laws.proofs.Tree.{rows-length, row-at, group-rows-length, group-row-at, own, own-group-named, number-is}
 use Rattle.laws.proofs.Decoding.{IndexFits}
 use Rattle.laws.proofs.Accepted.{graph-size, graph-proper, head-good}
 use Rattle.laws.proofs.Accepted.{Named as Accepted}
@@ -189,20 +189,9 @@ module _ {b : List ℕ} (I : IsIndex b) where
     unfolding linkRow
     own-same = number-is G proper fits-groups (linkAt G i) i (record { in-range = li; is-lo = ap (λ (r : LinkRow). r .lo) row-is; is-hi = ap (λ (r : LinkRow). r .hi) row-is }) .2
 
-    -- a link of strength 2 has no group, and every other has one
-    pub own-cases : ((ownGroup G i < groupCount G) × (minLevel ≤ strengthAt G i)) ⊎ ((ownGroup G i ≡ noGroup) × (strengthAt G i < minLevel))
-    unfolding linkRow
-    own-cases = go (test (leb minLevel (strengthAt G i)))
-      where
-        is : ownGroup G i ≡ cond (leb minLevel (strengthAt G i)) (groupOf G (groups G) (strengthAt G i) i) noGroup
-        is = ap (λ (r : LinkRow). r .group) row-is
-
-        go : (leb minLevel (strengthAt G i) ≡ true) ⊎ (leb minLevel (strengthAt G i) ≡ false)
-            → ((ownGroup G i < groupCount G) × (minLevel ≤ strengthAt G i)) ⊎ ((ownGroup G i ≡ noGroup) × (strengthAt G i < minLevel))
-        go (inl c) =
-            let s = leb-true minLevel (strengthAt G i) c in
-            inl (subst (λ (x : ℕ). x < groupCount G) (sym own-same) (own-is G proper fits-groups i l s .0), s)
-        go (inr c) = inr (is ∙ rw c refl, leb-false minLevel (strengthAt G i) c)
+    -- every link names a stored group
+    pub own-below : ownGroup G i < groupCount G
+    own-below = subst (λ (x : ℕ). x < groupCount G) (sym own-same) (own-group-named G proper fits-groups i l)
 
   module _ (g : ℕ) (l : g < groupCount G) where
     lg : g < length (index G .groups)

@@ -42,7 +42,7 @@ growing c = eqb c 7 || joining c
 
 -- the start
 abbrev pub preparing : Columns
-preparing c = eqb c 6 || (eqb c 7 || (eqb c 8 || eqb c 15))
+preparing c = eqb c 6 || (eqb c 7 || eqb c 15)
 
 -- a level of groups
 abbrev pub grouping : Columns

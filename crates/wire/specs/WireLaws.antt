@@ -7,22 +7,24 @@ use mathlib.Core.List.{List}
 use Prim.Native.Nat.{ℕ, zero, suc, _+_, _-_, _≤_, _<_}
 use native.Mathlib.Omega.{arith}
 use lib.Dec.{eqb, ltb, leb}
-use lib.ListN.{length}
+use lib.ListN.{length, List·getD-eq-default}
 use borrow.Author.Tests.{lt-ltb, le-ltb, le-leb, lt-leb, eq-eqb, ne-eqb}
-use Rattle.truss.specs.Record.{bodyLength, byteAt, holdsBody, whole}
+use Rattle.truss.specs.Record.{bodyLengths, bodyLength, byteAt, holdsBody, whole}
 use Rattle.laws.proofs.Numbers.{less-or-not}
 
--- a kind that is none of the six has no body length
-pub unknown : (k : ℕ) → k ≢ 1 → k ≢ 2 → k ≢ 3 → k ≢ 4 → k ≢ 5 → k ≢ 6 → none ≡ bodyLength k
+-- a kind that is not in the table has no body length
+pub unknown : (k : ℕ) → (0 < k → k < length bodyLengths → ⊥) → none ≡ bodyLength k
 unfolding bodyLength
-unknown zero a b c d e f = refl
-unknown (suc zero) a b c d e f = absurd (a refl)
-unknown (suc (suc zero)) a b c d e f = absurd (b refl)
-unknown (suc (suc (suc zero))) a b c d e f = absurd (c refl)
-unknown (suc (suc (suc (suc zero)))) a b c d e f = absurd (d refl)
-unknown (suc (suc (suc (suc (suc zero))))) a b c d e f = absurd (e refl)
-unknown (suc (suc (suc (suc (suc (suc zero)))))) a b c d e f = absurd (f refl)
-unknown (suc (suc (suc (suc (suc (suc (suc k))))))) a b c d e f = refl
+unknown zero n = refl
+unknown (suc k) n = go (less-or-not (suc k) (length bodyLengths))
+  where
+    go : (suc k < length bodyLengths) ⊎ (length bodyLengths ≤ suc k) → none ≡ bodyLength (suc k)
+    go (inl l) = absurd (n (omega arith) l)
+    go (inr l) = sym (List·getD-eq-default bodyLengths none l)
+
+-- kinds are told apart one by one
+pub above : {x k : ℕ} → x ≤ k → k ≢ x → suc x ≤ k
+above l n = omega (arith, l, n)
 
 and-false : (a : Bool) → (a && false) ≡ false
 and-false true = refl

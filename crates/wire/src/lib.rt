@@ -8,10 +8,8 @@ ghost use Rattle.truss.specs.Index.{linkBytes, joinBytes, groupBytes};
 ghost use Rattle.wire.specs.Wire.{bodyOf};
 ghost use Rattle.wire.specs.Writing.{Tells, written};
 
+// The head with which a links file begins.
 pub const HEAD: u8 = 1;
-
-// The head with which an index begins.
-pub const INDEX_HEAD: u8 = HEAD;
 
 pub const STRONG_LINK: u8 = 2;
 
@@ -23,8 +21,11 @@ pub const END: u8 = 5;
 
 pub const PLAIN_LINK: u8 = 6;
 
-// The body length that a kind fixes; an unknown kind is refusal 1. Today only kinds 1, 2, 5 and 6 are looked for by it, so the other arms never run: the match is the table
-// of document 01 as it stands.
+// The head with which an index begins.
+pub const INDEX_HEAD: u8 = 7;
+
+// The body length that a kind fixes; an unknown kind is refusal 1. Today only kinds 1, 2, 5, 6 and 7 are looked for by it, so the other arms never run: the match is the
+// table of the documents as it stands.
 pub enum Body {
     Length(usize),
     Unknown,
@@ -40,6 +41,7 @@ fn body_length(kind: u8) -> Body
         4 => Body::Length(5),
         5 => Body::Length(0),
         6 => Body::Length(4),
+        7 => Body::Length(4),
         _ => Body::Unknown,
     }
 }

@@ -1,8 +1,9 @@
 -- `wire::body_length` meets its contract. Assumes nothing.
-use Rattle.wire.specs.WireLaws.{unknown}
+use Rattle.wire.specs.WireLaws.{unknown, above}
 use Rattle.wire.specs.Wire.{bodyOf}
 use Rattle.truss.specs.Record.{bodyLength}
 use mathlib.Core.Path.{sym, ap}
+use native.Mathlib.Omega.{arith}
 use Rattle.wire.proofs.body_length.Statement.{statement}
 use Rattle.wire.proofs.body_length.Tie as tie
 
@@ -31,9 +32,13 @@ unfolding bodyOf bodyLength
 returns-6 c = sym (ap bodyLength (c .match .keys6))
 
 returns-7 : tie.Need-returns-7
+unfolding bodyOf bodyLength
+returns-7 c = sym (ap bodyLength (c .match .keys7))
+
+returns-8 : tie.Need-returns-8
 unfolding bodyOf
-returns-7 c = unknown _ (c .match .rest .0 .0 .0 .0 .0 .1) (c .match .rest .0 .0 .0 .0 .1) (c .match .rest .0 .0 .0 .1) (c .match .rest .0 .0 .1) (c .match .rest .0 .1) (c .match .rest .1)
+returns-8 c = unknown _ (λ some few. omega (arith, few, above (above (above (above (above (above (above some (c .match .rest .0 .0 .0 .0 .0 .0 .1)) (c .match .rest .0 .0 .0 .0 .0 .1)) (c .match .rest .0 .0 .0 .0 .1)) (c .match .rest .0 .0 .0 .1)) (c .match .rest .0 .0 .1)) (c .match .rest .0 .1)) (c .match .rest .1)))
 
 pub body-length-spec : {M : Type 1} → statement M
 body-length-spec =
-    tie.close (tie.spec returns returns-2 returns-3 returns-4 returns-5 returns-6 returns-7)
+    tie.close (tie.spec returns returns-2 returns-3 returns-4 returns-5 returns-6 returns-7 returns-8)

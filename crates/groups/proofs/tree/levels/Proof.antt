@@ -1,5 +1,5 @@
 -- `groups::tree::levels` meets its contract. Assumes nothing.
-use Rattle.groups.specs.Tree.{LevelsPre, TreeAt, levels-first, tree-level, tree-group, tree-less, tree-next, tree-end}
+use Rattle.groups.specs.Tree.{LevelsPre, TreeAt, levels-first, tree-level, tree-group, tree-less, tree-next, tree-lone, tree-end}
 use Rattle.laws.proofs.Sides.{InOrder}
 use Rattle.laws.proofs.Groups.{size}
 use Rattle.truss.specs.Limits.{noGroup}
@@ -39,14 +39,17 @@ loop-less c = tree-less (c .before .before .before .before .before .before .befo
 loop-again : tie.Need-loop-again Inv-loop μ-loop
 loop-again c = (c .before .before .before .before .group .ensures .steady .frame .length-is ∙ c .before .before .before .before .before .before .before .before .before .before .level .ensures .0 .frame .length-is ∙ c .before .before .before .before .before .before .before .before .before .before .before .before .before .before .loop .inv .0, search needs, λ G o fits P. tree-next (c .before .before .before .before .before .before .before .before .before .before .before .before .before .before .loop .inv .2 G o fits P) (c .before .before .before .before .before .before .before .before .before .before .before .before .before .loop-test .taken) (P .rows) (omega (arith, c .before .before .before .before .before .before .before .before .before .before .before .before .before .before .loop .inv .1, P .wide)) (c .before .before .before .before .before .before .before .before .before .before .level .ensures .0) (c .before .before .before .before .group .ensures) (c .top2 .ensures))
 
+group-requires-2 : tie.Need-group-requires-2 Inv-loop μ-loop
+group-requires-2 c κs = (c .before .before .before .before .before .before .before .before .pre .0, c .before .before .before .before .before .before .before .before .args .n, c .before .before .before .before .before .before .before .before .pre .1, c .before .before .before .before .before .before .before .before .pre .2, tree-lone (c .before .before .loop .inv .2 (c .before .before .before .before .before .before .before .before .pre .0) (c .before .before .before .before .before .before .before .before .pre .1) (c .before .before .before .before .before .before .before .before .pre .2) (c .before .before .before .before .before .before .before .before .pre .3)) (omega (arith, c .before .loop-test .left)))
+
 same-length : tie.Need-same-length Inv-loop μ-loop
-same-length c = c .before .loop .inv .0
+same-length c = c .before .before .group2 .ensures .steady .frame .length-is ∙ c .before .before .before .before .before .loop .inv .0
 
 same-length-2 : tie.Need-same-length-2 Inv-loop μ-loop
-same-length-2 c = c .before .loop .inv .1
+same-length-2 c = c .before .before .before .before .before .loop .inv .1
 
 returns : tie.Need-returns Inv-loop μ-loop
-returns c = λ G o fits P. tree-end (c .before .loop .inv .2 G o fits P) (omega (arith, c .loop-test .left))
+returns c = λ G o fits P. tree-end (c .before .before .before .before .before .loop .inv .2 G o fits P) (omega (arith, c .before .before .before .before .loop-test .left)) (c .before .before .group2 .ensures)
 
 pub levels-spec : {M : Type 1} → statement M
 levels-spec =
@@ -61,6 +64,7 @@ levels-spec =
     top-requires-2
     loop-less
     loop-again
+    group-requires-2
     same-length
     same-length-2
     returns)
