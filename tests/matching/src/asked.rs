@@ -1,8 +1,10 @@
 //! One question put to the library and to the reference on the same bytes, and every difference between them.
 
 use crate::lent::{four_numbers, Lent, RULES};
-use reference::questions;
+use reference::index::Index;
+use reference::questions::{self, Ends};
 use reference::random::Random;
+use reference::records::two;
 use reference::reply::Reply;
 use terminal::{Question, Slices, DESK, WINDOWS};
 
@@ -58,12 +60,16 @@ pub struct Found {
 pub struct Met {
     /// By question: 0 answered, else refused by that number.
     replies: [[usize; 14]; 7],
-    /// By question: answered with the first value of `KINDS`, with the second, with another.
-    answers: [[usize; 3]; 7],
+    /// By question: answered with each value of `KINDS`, with another.
+    answers: [[usize; 4]; 7],
     /// A of strength 3 or more: s - 2 triangles, more of them.
     triangles: [usize; 2],
     /// C, D and E of several groups: as the index has them, in another order.
     orders: [[usize; 2]; 3],
+    /// C, F and G: at each k of `LIMITS` with its reply.
+    limits: [[usize; 4]; 3],
+    /// The answers of `LONE`.
+    lone: [usize; LONE.len()],
     /// By window: answered.
     windows: [usize; WINDOWS as usize],
 }
@@ -79,24 +85,95 @@ const REFUSALS: [&[usize]; 7] = [
     &[7, 9, 10, 11, 12, 13],
 ];
 
-/// By question, two values of a done reply, and what they mean. A group has three links or more.
-const KINDS: [[(u32, &str); 2]; 7] = [
-    [(2, "2"), (3, "3")],
-    [(0, "0"), (3, "3")],
-    [(2, "none"), (4, "one")],
-    [(2, "none"), (4, "one")],
-    [(2, "none"), (4, "one")],
-    [(2, "none"), (8, "three")],
-    [(2, "none"), (8, "one")],
+/// By question, values of a done reply, and what they mean. A group is a lone link, or has three links or more.
+const KINDS: [&[(u32, &str)]; 7] = [
+    &[(2, "2"), (3, "3")],
+    &[(0, "0"), (2, "2"), (3, "3")],
+    &[(2, "none"), (4, "one")],
+    &[(2, "none"), (4, "one")],
+    &[(2, "none"), (4, "one")],
+    &[(2, "none"), (4, "one"), (8, "three")],
+    &[(2, "none"), (8, "one")],
 ];
 
+/// At and beside the limits of k: k, and its refusal or 0.
+const LIMITS: [(u32, u32); 4] = [(1, 10), (2, 0), (64, 0), (65, 10)];
+
+/// The three questions that have a k, by number, with it.
+fn level(question: &Question) -> Option<(usize, u32)> {
+    match *question {
+        Question::C(_, k) => Some((0, k)),
+        Question::F(_, k) => Some((1, k)),
+        Question::G(_, _, k) => Some((2, k)),
+        _ => None,
+    }
+}
+
+/// Answers with lone links, which are the groups of strength 2, and those at 2 without.
+const LONE: [&str; 11] = [
+    "C at 2: lone links",
+    "C at 2: others",
+    "C at 2: both",
+    "D: lone links",
+    "E: lone links",
+    "E: both",
+    "F at 2: other links",
+    "G at 2: a lone link with itself",
+    "G at 2: another with itself",
+    "G at 2: two that are joined",
+    "G at 2: two that are not",
+];
+
+/// Which of `LONE` it is, given the strengths of the groups of an answer of C, D or E.
+fn lone(question: &Question, strengths: &[u16], value: u32) -> Option<usize> {
+    let (lone, others) = (strengths.contains(&2), strengths.iter().any(|&s| s > 2));
+    let same = |first: Ends, second: Ends| first == second || first == (second.1, second.0);
+    match *question {
+        Question::C(_, 2) if lone && others => Some(2),
+        Question::C(_, 2) if others => Some(1),
+        Question::C(_, 2) if lone => Some(0),
+        Question::D(_) if lone => Some(3),
+        Question::E(_) if lone && others => Some(5),
+        Question::E(_) if lone => Some(4),
+        Question::F(_, 2) if value > 4 => Some(6),
+        Question::G(first, second, 2) => match (same(first, second), value) {
+            (true, 2) => Some(7),
+            (true, _) => Some(8),
+            (false, 3..) => Some(9),
+            (false, _) => Some(10),
+        },
+        _ => None,
+    }
+}
+
 impl Met {
-    fn add(&mut self, question: &Question, window: u32, reply: terminal::Reply, answer: &[u8]) {
+    fn add(
+        &mut self,
+        question: &Question,
+        window: u32,
+        reply: terminal::Reply,
+        answer: &[u8],
+        strengths: &[u16],
+    ) {
         let at = question.letter() as usize - 'A' as usize;
         self.replies[at][reply.refusal as usize] += 1;
+        if let Some((of, k)) = level(question) {
+            let limit = (k, reply.refusal);
+            let counts = LIMITS.iter().zip(&mut self.limits[of]);
+            { counts.filter(|at| *at.0 == limit) }.for_each(|(_, count)| *count += 1);
+        }
         if reply.refusal == 0 {
             let kind = KINDS[at].iter().position(|kind| kind.0 == reply.value);
-            self.answers[at][kind.unwrap_or(2)] += 1;
+            self.answers[at][kind.unwrap_or(KINDS[at].len())] += 1;
+            let groups = match at {
+                2..=4 => &answer[2..reply.value as usize],
+                _ => &[],
+            };
+            let strength = |group: &[u8]| strengths[usize::from(two(group, 0))];
+            let of_answer: Vec<u16> = groups.chunks(2).map(strength).collect();
+            if let Some(kind) = lone(question, &of_answer, reply.value) {
+                self.lone[kind] += 1;
+            }
             if at == 0 && reply.value > 2 {
                 let more = reply.second > reply.value - 2;
                 self.triangles[usize::from(more)] += 1;
@@ -121,17 +198,21 @@ impl Met {
         for (to, from) in self.orders.iter_mut().zip(&other.orders) {
             sum(to, from);
         }
+        for (to, from) in self.limits.iter_mut().zip(&other.limits) {
+            sum(to, from);
+        }
+        sum(&mut self.lone, &other.lone);
         sum(&mut self.windows, &other.windows);
     }
 
-    /// Prints the counts. False if a reply that a question can have was never met, an order of groups, or a window never answered.
+    /// Prints the counts. False if a reply that a question can have was never met, an order of groups, a limit of k, an answer of `LONE`, or a window never answered.
     pub fn show(&self) -> bool {
         let mut all = true;
         let asked: usize = self.replies.iter().flatten().sum();
         println!("questions asked: {asked}, each answered with or refused by:");
         for (at, letter) in ('A'..='G').enumerate() {
-            let [first, second] = KINDS[at].map(|kind| kind.1);
-            let names = [first, second, "more"].into_iter().zip(self.answers[at]);
+            let names = KINDS[at].iter().map(|kind| kind.1).chain(["more"]);
+            let names = names.zip(self.answers[at]);
             let answered = names.map(|(name, count)| (name.to_string(), count));
             let numbers = REFUSALS[at].iter();
             let refused = numbers.map(|&n| (format!("by {n}"), self.replies[at][n]));
@@ -148,6 +229,15 @@ impl Met {
             println!("  {letter} of several groups as the index has them: {rising}, in another order: {other}");
             all &= rising > 0 && other > 0;
         }
+        for (letter, counts) in ['C', 'F', 'G'].into_iter().zip(self.limits) {
+            let [below, least, greatest, above] = counts;
+            println!("  {letter} at k = 1, 65, refused by 10: {below}, {above}; at 2, 64, answered: {least}, {greatest}");
+            all &= !counts.contains(&0);
+        }
+        for (name, count) in LONE.iter().zip(self.lone) {
+            println!("  {name}: {count}");
+            all &= count > 0;
+        }
         let least = self.windows.iter().min().expect("windows");
         println!("  answered to each window: {least} or more");
         all && just > 0 && more > 0 && *least > 0
@@ -161,6 +251,8 @@ pub struct Asker<'a> {
     bytes: &'a [u8],
     index: Lent,
     before: Vec<u8>,
+    /// By group; none of bytes that are no index.
+    strengths: Vec<u16>,
     pub met: Met,
 }
 
@@ -171,12 +263,14 @@ impl<'a> Asker<'a> {
     pub fn new(ask: Ask, noise: &'a mut Random, bytes: &'a [u8]) -> Asker<'a> {
         let index = Lent::holding(noise, bytes);
         let before = index.bytes.clone();
+        let groups = Index::read(RULES, bytes).map_or(vec![], |index| index.groups);
         Asker {
             ask,
             noise,
             bytes,
             index,
             before,
+            strengths: groups.iter().map(|group| group.strength).collect(),
             met: Met::default(),
         }
     }
@@ -212,7 +306,8 @@ impl<'a> Asker<'a> {
 
         let wanted = four_numbers(expected);
         let right_answer = &right[answer.from..answer.to];
-        self.met.add(question, *window, wanted, right_answer);
+        self.met
+            .add(question, *window, wanted, right_answer, &self.strengths);
         let fault = |what: String| {
             let at = record.len().min(4 * (*window).min(WINDOWS) as usize);
             let tally = &record[at..record.len().min(at + 4)];

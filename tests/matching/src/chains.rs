@@ -41,7 +41,7 @@ fn cards_of_five() -> impl Iterator<Item = Lot> {
     links_of_five().map(|links| {
         let mut asked = Vec::new();
         for (&first, &second) in links.iter().flat_map(|a| links.iter().map(move |b| (a, b))) {
-            for k in 3..=5 {
+            for k in 2..=5 {
                 let turned = (second.1, second.0);
                 let question = G(ends(first), ends(turned), k);
                 let with = With {
@@ -65,7 +65,7 @@ fn cards_of_five() -> impl Iterator<Item = Lot> {
 fn faults() -> Vec<Lot> {
     const BAD: [u32; 4] = [7, 0x1_0000, 0x8000_0001, u32::MAX];
     const FEW: [usize; 2] = [0, 32]; // the rooms of that one
-    const LEVELS: [u32; 9] = [0, 2, 3, 4, 64, 65, 0x103, 0x1_0003, u32::MAX];
+    const LEVELS: [u32; 10] = [0, 1, 2, 3, 4, 64, 65, 0x103, 0x1_0003, u32::MAX];
     let desks = [
         (3, vec![]),
         (30, vec![0xFF; DESK - 1]),
@@ -194,7 +194,7 @@ fn long_chains() -> Vec<Lot> {
             let mut questions = vec![G(first, last, 3), G(last, first, 3), G(first, last, 4)];
             for _ in 0..if links.len() > 1_000 { 10 } else { 40 } {
                 let drawn = [random.pick(&links), random.pick(&links)].map(ends);
-                questions.push(G(drawn[0], drawn[1], random.pick(&[3, 3, 3, 4])));
+                questions.push(G(drawn[0], drawn[1], random.pick(&[2, 3, 3, 4])));
             }
             lots.push(Lot {
                 name: "long-chains",

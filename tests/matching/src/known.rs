@@ -4,7 +4,7 @@ use crate::asked::Found;
 use crate::lent::RULES;
 use crate::limits::{all_pairs, flat, CARD_A};
 use crate::parties::{
-    beside, book, clique, every_kind, five_less_one, nested, strip, triangle, wheel, Party,
+    beside, book, clique, every_kind, five_less_one, nested, pair, strip, triangle, wheel, Party,
 };
 use reference::card::{links_file, Card};
 use reference::fast;
@@ -219,11 +219,12 @@ fn larger_first(add: &mut impl FnMut(&str, Vec<u8>, Vec<Vec<(Question, Said)>>))
         "every-kind-of-party",
         file(&[every_kind()]),
         vec![numbers(vec![
+            (at(0, 2), vec![3, 2, 1, 9, 8, 5, 7, 6, 4, 10, 11, 12]),
             (at(0, 3), vec![3, 2, 1, 9, 8, 5, 7, 6, 4, 10]),
             (at(0, 4), vec![3, 2, 1]),
             (at(0, 5), vec![]),
             (strongest(0), vec![3, 2, 1]),
-            (every(0), vec![3, 2, 1, 9, 8, 5, 7, 6, 4, 10]),
+            (every(0), vec![3, 2, 1, 9, 8, 5, 7, 6, 4, 10, 11, 12]),
         ])],
     );
     // 3, 255, 256 and 258 accounts: a count of them does not fit a byte.
@@ -238,6 +239,203 @@ fn larger_first(add: &mut impl FnMut(&str, Vec<u8>, Vec<Vec<(Question, Said)>>))
         "all-smaller-first",
         file(&halves),
         vec![same((204..408).chain(0..204).collect())],
+    );
+}
+
+/// Links in no triangle, each a group of its own: with others at one account, and as many as there can be.
+fn lone_links(add: &mut impl FnMut(&str, Vec<u8>, Vec<Vec<(Question, Said)>>)) {
+    let at = |accounts: &[u16], k| C(named(accounts), k);
+    let strongest = |accounts: &[u16]| D(named(accounts));
+    let every = |accounts: &[u16]| E(named(accounts));
+    // Of groups of strength 2 alone, so that C at 2, D and E are the same, and C at 3 has none.
+    let same = |accounts: &[u16], said: Vec<u16>| {
+        numbers(vec![
+            (at(accounts, 2), said.clone()),
+            (strongest(accounts), said.clone()),
+            (every(accounts), said),
+            (at(accounts, 3), vec![]),
+        ])
+    };
+
+    // 0-1 and 1-2 share an account and are two groups; 3-4 is apart.
+    add(
+        "three-lone",
+        links_file(5, &[(4, 3), (1, 2), (0, 1)]),
+        vec![
+            firmness(vec![(A((1, 0)), 2, 0), (A((3, 4)), 2, 0)]),
+            values(vec![
+                (B((0, 1), (1, 2)), 0),
+                (B((0, 1), (3, 4)), 0),
+                (B((2, 1), (1, 2)), 2),
+                (B((3, 4), (3, 4)), 2),
+            ]),
+            same(&[1], vec![0, 1]),
+            same(&[0], vec![0]),
+            same(&[2, 1], vec![1]),
+            same(&[4], vec![2]),
+            same(&[0, 2], vec![]),
+            numbers(vec![
+                (F((0, 1), 2), vec![0]),
+                (F((2, 1), 2), vec![1]),
+                (F((3, 4), 2), vec![2]),
+                (F((0, 1), 3), vec![]),
+            ]),
+            triangles(vec![
+                (G((0, 1), (0, 1), 2), vec![]),
+                (G((0, 1), (1, 2), 2), vec![]),
+                (G((0, 1), (3, 4), 2), vec![]),
+                (G((0, 1), (0, 1), 3), vec![]),
+            ]),
+        ],
+    );
+    // The lone link is the first of all, and its group the last.
+    add(
+        "lone-first",
+        links_file(4, &[(1, 2), (1, 3), (2, 3), (0, 1)]),
+        vec![
+            values(vec![
+                (B((0, 1), (1, 0)), 2),
+                (B((0, 1), (1, 2)), 0),
+                (B((2, 3), (2, 3)), 3),
+            ]),
+            numbers(vec![
+                (at(&[1], 2), vec![0, 1]),
+                (at(&[1], 3), vec![0]),
+                (at(&[0], 2), vec![1]),
+                (strongest(&[1]), vec![0]),
+                (strongest(&[0]), vec![1]),
+                (every(&[1]), vec![0, 1]),
+                (every(&[0, 1]), vec![1]),
+                (F((0, 1), 2), vec![0]),
+                (F((2, 3), 2), vec![1, 2, 3]),
+            ]),
+        ],
+    );
+    // Two triangles with the link 2-3 between them: at 2 they are as far apart as at 3.
+    let bridge = [all_pairs(0..3), vec![(2, 3)], all_pairs(3..6)].concat();
+    add(
+        "lone-between",
+        links_file(6, &bridge),
+        vec![
+            values(vec![(B((1, 2), (3, 4)), 0), (B((1, 2), (2, 3)), 0)]),
+            numbers(vec![
+                (at(&[2], 2), vec![0, 2]),
+                (at(&[3], 2), vec![1, 2]),
+                (at(&[2, 3], 2), vec![2]),
+                (at(&[0, 5], 2), vec![]),
+                (strongest(&[2, 3]), vec![2]),
+                (every(&[3]), vec![1, 2]),
+                (F((1, 2), 2), vec![0, 1, 2]),
+                (F((2, 3), 2), vec![3]),
+                (F((5, 4), 2), vec![4, 5, 6]),
+            ]),
+            triangles(vec![
+                (G((0, 1), (4, 5), 2), vec![]),
+                (G((1, 2), (2, 3), 2), vec![]),
+                (G((1, 2), (2, 1), 2), vec![[0, 1, 2]]),
+            ]),
+        ],
+    );
+    // Four pairs with account 0 before, between and after groups of strength 3 and 4.
+    let Party { accounts, links } = beside(&[
+        pair(),
+        triangle(),
+        pair(),
+        strip(4),
+        pair(),
+        clique(4),
+        pair(),
+    ]);
+    add(
+        "lone-among-others",
+        links_file(accounts, &links),
+        vec![numbers(vec![
+            (at(&[0], 2), vec![0, 2, 1, 3, 4, 5, 6]),
+            (at(&[0], 3), vec![0, 2, 1]),
+            (strongest(&[0]), vec![0]),
+            (every(&[0]), vec![0, 2, 1, 3, 4, 5, 6]),
+            (every(&[0, 1]), vec![3]),
+            (every(&[accounts - 1, 0]), vec![6]),
+        ])],
+    );
+    // No account is in more groups: 1,023 at one account, the first and then the last.
+    let star: Vec<_> = (1..1_024).map(|a| (0, a)).collect();
+    add(
+        "lone-star",
+        links_file(1_024, &star),
+        vec![
+            same(&[0], (0..1_023).collect()),
+            same(&[0; 16], (0..1_023).collect()),
+            same(&[1_023], vec![1_022]),
+            same(&[1_023, 0], vec![1_022]),
+            same(&[1, 2], vec![]),
+            values(vec![(B((0, 1), (0, 2)), 0), (B((1_023, 0), (0, 1_023)), 2)]),
+            numbers(vec![(F((0, 1_023), 2), vec![1_022])]),
+        ],
+    );
+    let turned: Vec<_> = (0..1_023).map(|a| (a, 1_023)).collect();
+    add(
+        "lone-star-turned",
+        links_file(1_024, &turned),
+        vec![
+            same(&[1_023], (0..1_023).collect()),
+            same(&[700], vec![700]),
+        ],
+    );
+    let path: Vec<_> = (1..1_024).map(|a| (a - 1, a)).collect();
+    add(
+        "lone-path",
+        links_file(1_024, &path),
+        vec![
+            same(&[0], vec![0]),
+            same(&[512], vec![511, 512]),
+            same(&[512, 513], vec![512]),
+            same(&[512, 514], vec![]),
+            same(&[1_023], vec![1_022]),
+            values(vec![(B((5, 6), (6, 7)), 0), (B((5, 6), (6, 5)), 2)]),
+            numbers(vec![(F((512, 513), 2), vec![512])]),
+            triangles(vec![(G((5, 6), (6, 7), 2), vec![])]),
+        ],
+    );
+    let couples: Vec<_> = (0..512).map(|a| (2 * a, 2 * a + 1)).collect();
+    add(
+        "lone-couples",
+        links_file(1_024, &couples),
+        vec![
+            same(&[0], vec![0]),
+            same(&[1_023, 1_022], vec![511]),
+            same(&[1, 2], vec![]),
+            numbers(vec![(F((1_022, 1_023), 2), vec![511])]),
+        ],
+    );
+    // Each account below 32 with each from 32 to 95: 2,048 links, as many groups, the link a-b and its group numbered 64a + b - 32.
+    add(
+        "no-triangle",
+        links_file(96, &flat(2_048)),
+        vec![
+            firmness(vec![(A((31, 95)), 2, 0), (A((0, 32)), 2, 0)]),
+            values(vec![
+                (B((31, 95), (31, 95)), 2),
+                (B((0, 32), (0, 33)), 0),
+                (B((0, 32), (1, 32)), 0),
+            ]),
+            same(&[0], (0..64).collect()),
+            same(&[31], (1_984..2_048).collect()),
+            same(&[32], (0..32).map(|a| 64 * a).collect()),
+            same(&[95], (0..32).map(|a| 64 * a + 63).collect()),
+            same(&[0, 32], vec![0]),
+            same(&[95, 31], vec![2_047]),
+            same(&[0, 1], vec![]),
+            numbers(vec![
+                (F((0, 32), 2), vec![0]),
+                (F((31, 95), 2), vec![2_047]),
+                (F((0, 32), 3), vec![]),
+            ]),
+            triangles(vec![
+                (G((0, 32), (0, 32), 2), vec![]),
+                (G((0, 32), (0, 33), 2), vec![]),
+            ]),
+        ],
     );
 }
 
@@ -262,6 +460,7 @@ pub fn all() -> Vec<Known> {
         links_file(1, &[]),
         vec![
             numbers(vec![
+                (at(&[0], 2), vec![]),
                 (at(&[0], 3), vec![]),
                 (strongest(&[0]), vec![]),
                 (every(&[0; 16]), vec![]),
@@ -271,12 +470,12 @@ pub fn all() -> Vec<Known> {
                 (A((0, 1)), 9),
                 (B((0, 0), (0, 0)), 11),
                 (every(&[1]), 9),
-                (F((0, 0), 3), 11),
-                (F((0, 0), 2), 10),
-                (F((1, 0), 2), 9),
-                (G((0, 0), (0, 0), 3), 11),
-                (G((0, 0), (0, 0), 2), 10),
-                (G((0, 0), (0, 1), 2), 9),
+                (F((0, 0), 2), 11),
+                (F((0, 0), 1), 10),
+                (F((1, 0), 1), 9),
+                (G((0, 0), (0, 0), 2), 11),
+                (G((0, 0), (0, 0), 1), 10),
+                (G((0, 0), (0, 1), 1), 9),
             ]),
         ],
     );
@@ -293,26 +492,44 @@ pub fn all() -> Vec<Known> {
                 (A((4, 3)), 2, 0),
             ]),
             values(vec![
-                (B((3, 4), (3, 4)), 0),
-                (B((3, 4), (4, 3)), 0),
+                (B((3, 4), (3, 4)), 2),
+                (B((3, 4), (4, 3)), 2),
                 (B((1, 2), (2, 1)), 3),
                 (B((0, 1), (2, 3)), 3),
                 (B((2, 3), (3, 4)), 0),
             ]),
             numbers(vec![
                 (at(&[0, 3], 3), vec![0]),
+                (at(&[0, 3], 2), vec![0]),
                 (at(&[0], 4), vec![]),
                 (at(&[4], 3), vec![]),
-                (every(&[3, 4]), vec![]),
+                (at(&[4], 2), vec![1]),
+                (at(&[3], 2), vec![0, 1]),
+                (at(&[4, 3], 2), vec![1]),
+                (at(&[4, 2], 2), vec![]),
+                (strongest(&[4]), vec![1]),
+                (strongest(&[3]), vec![0]),
+                (every(&[3]), vec![0, 1]),
+                (every(&[3, 4]), vec![1]),
+                (every(&[2, 4]), vec![]),
                 (F((3, 2), 3), vec![0, 1, 2, 3, 4]),
+                (F((3, 2), 2), vec![0, 1, 2, 3, 4]),
                 (F((3, 4), 3), vec![]),
+                (F((3, 4), 2), vec![5]),
+                (F((4, 3), 2), vec![5]),
+                (F((3, 4), 64), vec![]),
             ]),
             triangles(vec![
                 (G((0, 1), (3, 2), 3), vec![[0, 1, 2], [1, 2, 3]]),
                 (G((2, 1), (1, 2), 3), vec![[0, 1, 2]]),
+                (G((0, 1), (3, 2), 2), vec![[0, 1, 2], [1, 2, 3]]),
+                (G((2, 1), (1, 2), 2), vec![[0, 1, 2]]),
                 (G((3, 4), (3, 4), 3), vec![]),
+                (G((3, 4), (3, 4), 2), vec![]),
+                (G((3, 4), (4, 3), 2), vec![]),
                 (G((3, 4), (2, 3), 3), vec![]),
                 (G((2, 3), (3, 4), 3), vec![]),
+                (G((2, 3), (3, 4), 2), vec![]),
                 (G((0, 1), (0, 1), 4), vec![]),
             ]),
             refused(vec![
@@ -323,31 +540,39 @@ pub fn all() -> Vec<Known> {
                 (B((0, 4), (0, 5)), 9),
                 (B((0, 1), (0, 3)), 11),
                 (B((0, 3), (0, 1)), 11),
-                (C(vec![], 2), 8),
-                (C(vec![0], 2), 8),
-                (C(vec![0xFF; 3], 2), 8),
-                (C(vec![0; 34], 2), 8),
+                (C(vec![], 1), 8),
+                (C(vec![0], 1), 8),
+                (C(vec![0xFF; 3], 1), 8),
+                (C(vec![0; 34], 1), 8),
                 (C(vec![0; 0x1_0002], 3), 8),
                 (D(vec![0xFF; 34]), 8),
                 (E(vec![0; 31]), 8),
-                (at(&[0, 5], 2), 9),
+                (at(&[0, 5], 1), 9),
                 (at(&[0x100], 3), 9),
                 (every(&[0xFFFF]), 9),
-                (at(&[0], 2), 10),
+                (at(&[0], 0), 10),
+                (at(&[0], 1), 10),
+                (at(&[4], 1), 10),
                 (at(&[0], 65), 10),
+                (at(&[0], 0x1_0002), 10),
                 (at(&[0], 0x1_0003), 10),
                 (at(&[0], u32::MAX), 10),
-                (F((0, 5), 2), 9),
-                (F((0, 4), 2), 10),
+                (F((0, 5), 1), 9),
+                (F((0, 4), 1), 10),
+                (F((3, 4), 1), 10),
+                (F((3, 4), 0x102), 10),
                 (F((0, 1), 0x103), 10),
                 (F((0, 1), 0x8000_0003), 10),
+                (F((0, 4), 2), 11),
                 (F((0, 4), 3), 11),
-                (G((0, 5), (0, 4), 2), 9),
-                (G((0, 4), (0x1_0000, 1), 2), 9),
-                (G((0, 4), (0, 4), 2), 10),
+                (G((0, 5), (0, 4), 1), 9),
+                (G((0, 4), (0x1_0000, 1), 1), 9),
+                (G((0, 4), (0, 4), 1), 10),
+                (G((3, 4), (3, 4), 1), 10),
                 (G((0, 1), (0, 1), 65), 10),
                 (G((0, 1), (0, 1), 0x103), 10),
                 (G((0, 1), (0, 1), u32::MAX), 10),
+                (G((0, 4), (0, 1), 2), 11),
                 (G((0, 4), (0, 1), 3), 11),
                 (G((0, 1), (3, 3), 64), 11),
             ]),
@@ -377,6 +602,7 @@ pub fn all() -> Vec<Known> {
                 (at(&[2, 4], 4), vec![]),
                 (at(&[2, 4], 3), vec![2]),
                 (at(&[3], 3), vec![2]),
+                (at(&[3], 2), vec![2]),
                 (at(&[3], 5), vec![]),
                 (strongest(&[3]), vec![0, 1]),
                 (strongest(&[2]), vec![0]),
@@ -387,6 +613,7 @@ pub fn all() -> Vec<Known> {
                 (F((0, 1), 4), (0..6).collect()),
                 (F((5, 6), 4), (7..13).collect()),
                 (F((6, 5), 3), (0..13).collect()),
+                (F((6, 5), 2), (0..13).collect()),
                 (F((2, 4), 3), (0..13).collect()),
                 (F((2, 4), 4), vec![]),
                 (F((0, 1), 64), vec![]),
@@ -395,7 +622,8 @@ pub fn all() -> Vec<Known> {
                 (G((2, 3), (3, 4), 3), vec![[2, 3, 4]]),
                 (G((2, 3), (3, 4), 4), vec![]),
                 (G((2, 3), (0, 1), 4), vec![[0, 2, 3], [0, 1, 2]]),
-                (G((0, 1), (5, 6), 3), far),
+                (G((0, 1), (5, 6), 3), far.clone()),
+                (G((0, 1), (5, 6), 2), far),
                 (G((0, 1), (5, 6), 4), vec![]),
                 (G((4, 3), (3, 4), 4), vec![[3, 4, 5]]),
                 (G((2, 4), (2, 4), 3), vec![[2, 3, 4]]),
@@ -410,6 +638,7 @@ pub fn all() -> Vec<Known> {
             values(vec![(B((0, 2), (2, 3)), 0), (B((0, 1), (1, 2)), 3)]),
             numbers(vec![
                 (at(&[2], 3), vec![0, 1]),
+                (at(&[2], 2), vec![0, 1]),
                 (strongest(&[2]), vec![0, 1]),
                 (every(&[2]), vec![0, 1]),
                 (every(&[2, 3]), vec![1]),
@@ -445,10 +674,12 @@ pub fn all() -> Vec<Known> {
             values(vec![(B((0, 1), (3, 4)), 5)]),
             numbers(vec![
                 (at(&[0], 3), vec![0]),
+                (at(&[0, 1, 2, 3, 4], 2), vec![0]),
                 (at(&[0, 1, 2, 3, 4], 4), vec![0]),
                 (at(&[2], 5), vec![0]),
                 (at(&[2], 6), vec![]),
                 (every(&[4, 4]), vec![0]),
+                (F((0, 1), 2), (0..10).collect()),
                 (F((0, 1), 3), (0..10).collect()),
                 (F((0, 1), 5), (0..10).collect()),
                 (F((0, 1), 6), vec![]),
@@ -466,8 +697,10 @@ pub fn all() -> Vec<Known> {
             firmness(vec![(A((0, 63)), 64, 62), (A((31, 32)), 64, 62)]),
             values(vec![(B((0, 1), (62, 63)), 64)]),
             numbers(vec![
+                (at(&[63], 2), vec![0]),
                 (at(&[63], 3), vec![0]),
                 (at(&[63], 64), vec![0]),
+                (F((62, 63), 2), (0..2_016).collect()),
                 (F((62, 63), 3), (0..2_016).collect()),
                 (F((0, 1), 64), (0..2_016).collect()),
             ]),
@@ -476,27 +709,13 @@ pub fn all() -> Vec<Known> {
                 (G((62, 63), (63, 62), 64), vec![[0, 62, 63]]),
             ]),
             refused(vec![
-                (G((0, 1), (62, 63), 2), 10),
+                (G((0, 1), (62, 63), 1), 10),
                 (G((0, 1), (62, 63), 65), 10),
-                (at(&[63], 2), 10),
+                (at(&[63], 1), 10),
                 (at(&[63], 65), 10),
-                (F((0, 1), 2), 10),
+                (F((0, 1), 1), 10),
                 (F((0, 1), 65), 10),
                 (every(&[64]), 9),
-            ]),
-        ],
-    );
-    add(
-        "no-triangle",
-        links_file(96, &flat(2_048)),
-        vec![
-            firmness(vec![(A((31, 95)), 2, 0), (A((0, 32)), 2, 0)]),
-            values(vec![(B((31, 95), (31, 95)), 0), (B((0, 32), (0, 33)), 0)]),
-            numbers(vec![
-                (at(&[0], 3), vec![]),
-                (strongest(&[0]), vec![]),
-                (every(&[0, 32]), vec![]),
-                (F((0, 32), 3), vec![]),
             ]),
         ],
     );
@@ -521,6 +740,7 @@ pub fn all() -> Vec<Known> {
         ])],
     );
     larger_first(&mut add);
+    lone_links(&mut add);
     // A link with every other account as a third one: no link is in more triangles.
     let leaves = (2..1_024).flat_map(|account| [(0, account), (1, account)]);
     let book: Vec<_> = [(0, 1)].into_iter().chain(leaves).collect();
@@ -608,10 +828,10 @@ pub fn all() -> Vec<Known> {
             (strongest(&[46, 47]), vec![2]),
         ]),
     ];
-    for k in 3..=47 {
+    for k in 2..=47 {
         let within = |&at: &u16| nested[usize::from(at)].1 >= k;
         let links: Vec<u16> = (0..nested.len() as u16).filter(within).collect();
-        let group: Vec<u16> = (k <= 46).then(|| 46 - k).into_iter().collect();
+        let group: Vec<u16> = (k <= 46).then(|| 46 - k.max(3)).into_iter().collect();
         rows.push(numbers(vec![
             (at(&[7], k.into()), group),
             (F((44, 45), k.into()), links),

@@ -23,8 +23,12 @@ pub struct Limit {
 }
 
 pub const CARD_A: [(u16, u16); 6] = [(0, 1), (0, 2), (1, 2), (1, 3), (2, 3), (3, 4)];
-const INDEX_A: &str = "0100050006 0200000001030000 0200000002030000 0200010002030000 0200010003030000 0200020003030000 020003000402FFFF \
-     030000000103 030000000203 030002000303 030002000403 04FFFF030000 05";
+const INDEX_A: &str = "0700050006 0200000001030000 0200000002030000 0200010002030000 0200010003030000 0200020003030000 0200030004020001 \
+     030000000103 030000000203 030002000303 030002000403 04FFFF030000 04FFFF020005 05";
+
+/// 3-4, 1-2 and 0-1, of five accounts: a group each.
+const THREE_LONE: &str =
+    "0700050003 0200000001020000 0200010002020001 0200030004020002 04FFFF020000 04FFFF020001 04FFFF020002 05";
 
 fn hex(text: &str) -> Vec<u8> {
     let digits: Vec<u32> = text.chars().filter_map(|c| c.to_digit(16)).collect();
@@ -68,7 +72,31 @@ pub fn all() -> Vec<Limit> {
     add(
         "one-account",
         hex("01 0001 0000 05"),
-        Said::Index(hex("01 0001 0000 05")),
+        Said::Index(hex("07 0001 0000 05")),
+    );
+    add(
+        "three-lone",
+        links_file(5, &[(4, 3), (1, 2), (1, 0)]),
+        Said::Index(hex(THREE_LONE)),
+    );
+    // An index begins with kind 7, a links file does not, whatever else is wrong with it.
+    add("kind-7", hex("07 0001 0000 05"), Said::Refused(1, 0));
+    add(
+        "kind-7-accounts-0",
+        hex("07 0000 0801"),
+        Said::Refused(1, 0),
+    );
+    add("kind-7-and-no-more", hex("07"), Said::Refused(1, 0));
+    add("index-a", hex(INDEX_A), Said::Refused(1, 0));
+    add(
+        "kind-7-card-a",
+        [&[7], &a[1..]].concat(),
+        Said::Refused(1, 0),
+    );
+    add(
+        "kind-7-inside",
+        hex("01 0005 0001 07 0000 0001 05"),
+        Said::Refused(1, 5),
     );
     add("accounts-0", hex("01 0000 0000 05"), Said::Refused(2, 0));
     add(
@@ -84,7 +112,7 @@ pub fn all() -> Vec<Limit> {
     add(
         "accounts-1024",
         links_file(1_024, &[(1_023, 0)]),
-        Said::Length(6 + 8),
+        Said::Length(6 + 8 + 6),
     );
     add(
         "accounts-1024-account-1024",
@@ -104,7 +132,7 @@ pub fn all() -> Vec<Limit> {
     add(
         "links-2048-no-triangle",
         links_file(96, &flat(2_048)),
-        Said::Length(6 + 8 * 2_048),
+        Said::Length(6 + 8 * 2_048 + 6 * 2_048),
     );
     add(
         "links-2049-no-triangle",
@@ -137,7 +165,7 @@ pub fn all() -> Vec<Limit> {
     add(
         "all-pairs-of-64-and-32-more",
         links_file(1_024, &more),
-        Said::Length(6 + 8 * 2_048 + 6 * 2_015 + 6),
+        Said::Length(6 + 8 * 2_048 + 6 * 2_015 + 6 + 6 * 32),
     );
     let twice: Vec<_> = flat(2_047).into_iter().chain([(32, 0)]).collect();
     add(

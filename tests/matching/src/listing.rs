@@ -1,10 +1,11 @@
-//! The program `lister`, run on an index, against the reference's text and a known one.
+//! The program `lister`, run on an index, against the reference's text and known ones.
 
 use std::io::Write;
 use std::process::{Command, Stdio};
 
 use crate::known::index_of;
 use crate::lent::RULES;
+use crate::limits::CARD_A;
 use crate::parties::{every_kind, Party};
 use reference::card::links_file;
 
@@ -27,26 +28,44 @@ pub fn compare(index: &[u8]) -> Result<(), String> {
 }
 
 /// The groups of `every_kind` of parties: by their numbers, though larger ones have higher ones.
-const EVERY_KIND: &str = "groups 11
-0 5 8 10 5 17 18
-1 4 - 6 4 0 3
-2 4 - 9 5 0 22
-3 4 - 12 6 0 34
-4 3 - 3 3 0 1
-5 3 - 7 5 0 6
-6 3 - 5 4 0 10
-7 3 - 8 5 0 13
-8 3 - 12 6 0 17
-9 3 - 11 7 0 26
-10 3 - 3 3 0 32
+const EVERY_KIND: &str = "groups 13
+0 5 8 10 5 19 20
+1 4 - 6 4 0 4
+2 4 - 9 5 0 24
+3 4 - 12 6 0 36
+4 3 - 3 3 0 2
+5 3 - 7 5 0 7
+6 3 - 5 4 0 11
+7 3 - 8 5 0 15
+8 3 - 12 6 0 19
+9 3 - 11 7 0 28
+10 3 - 3 3 0 34
+11 2 - 1 2 0 1
+12 2 - 1 2 0 14
 ";
 
-/// The text of that card, which is known without the reference.
-pub fn known() -> (Vec<u8>, Result<(), String>) {
+/// A card by its name, its index, and whether the program prints the text that is known without the reference.
+pub type Listed = (&'static str, Vec<u8>, Result<(), String>);
+
+pub fn known() -> Vec<Listed> {
     let Party { accounts, links } = every_kind();
-    let index = index_of(&links_file(accounts, &links));
-    let found = prints(&index, EVERY_KIND);
-    (index, found)
+    let yesterday = [&[1], &index_of(&links_file(5, &CARD_A))[1..]].concat();
+    let listed = |name, index: Vec<u8>, text: &str| (name, index.clone(), prints(&index, text));
+    let all_of = |n, links: &[(u16, u16)]| index_of(&links_file(n, links));
+    vec![
+        listed("every-kind-listed", all_of(accounts, &links), EVERY_KIND),
+        listed(
+            "card-a-listed",
+            all_of(5, &CARD_A),
+            "groups 2\n0 3 - 5 4 0 1\n1 2 - 1 2 3 4\n",
+        ),
+        listed(
+            "three-lone-listed",
+            all_of(5, &[(4, 3), (1, 2), (0, 1)]),
+            "groups 3\n0 2 - 1 2 0 1\n1 2 - 1 2 1 2\n2 2 - 1 2 3 4\n",
+        ),
+        listed("kind-1-listed", yesterday, "refused 7\n"),
+    ]
 }
 
 /// Whether the program prints just this.

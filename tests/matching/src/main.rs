@@ -1,6 +1,6 @@
 //! Matches the library's C calls against the reference, an independent program: build and reading on random, shuffled and damaged files and on files at the
 //! limits, random questions and changes on the random indexes, good and damaged, questions with known answers, questions A, C to E and G, the windows and the faults of
-//! changes gone through in order, long rows of changes; and the lister's text.
+//! changes gone through in order, long rows of changes, lone links judged from the links alone, files with the head of the other file; and the lister's text.
 //!
 //! With no word: all of it. With a number: the files, questions and changes of that seed. With a name: that file at the limits, that known answer, that row, or that
 //! part of what is gone through in order.
@@ -11,10 +11,12 @@ mod chains;
 mod changed;
 mod changes;
 mod firmness;
+mod heads;
 mod known;
 mod lent;
 mod limits;
 mod listing;
+mod lone;
 mod parties;
 mod planted;
 mod planted_changes;
@@ -28,6 +30,7 @@ use asked::{Asker, Met};
 use changed::{Changer, Plain, Row};
 use lent::{compare_all, BUILD, RULES};
 use limits::Said;
+use lone::Judge;
 use questions::Asking;
 use reference::card::{links_file, Card};
 use reference::damage;
@@ -41,6 +44,9 @@ const SEEDS: u64 = 6_000;
 /// One seed in so many has its indexes listed: that runs a program.
 const LISTED: u64 = 11;
 
+/// One seed in so many has its card put under other heads, where most calls are refused at once.
+const HEADED: u64 = 5;
+
 /// So many failures show the file's bytes; the others can be repeated.
 const SHOWN: usize = 5;
 
@@ -52,6 +58,9 @@ struct Count {
     met: [usize; 7],
     asked: Met,
     changed: changed::Met,
+    lone: lone::Met,
+    /// Cards under other heads: without a lone link, with some.
+    heads: [usize; 2],
 }
 
 impl Count {
@@ -75,6 +84,15 @@ impl Count {
         let refused = Card::read(RULES, file).err();
         self.met[refused.map_or(0, |refusal| refusal.number.into())] += 1;
         compare_all(&BUILD, random, file)
+    }
+
+    /// Puts the links file and its index under other heads.
+    fn other_heads(&mut self, noise: &mut Random, word: &str, file: &[u8], index: &[u8]) {
+        let found = heads::compare(noise, file, index);
+        if let Ok(lone) = found {
+            self.heads[usize::from(lone)] += 1;
+        }
+        self.add(word, index, "under other heads", found.map(drop));
     }
 
     /// Asks questions on an index: the first each by itself, the others in a row on one desk record. Those after a failure are left out.
@@ -174,6 +192,15 @@ fn seed(count: &mut Count, seed: u64) {
             }
         }
 
+        if seed % HEADED == 0 {
+            count.other_heads(&mut noise, &word, &whole, &index);
+        }
+        let turns = if pairs.len() > 400 { 1 } else { 3 };
+        let judge = Judge::new(terminal::ask, &index, &pairs, &mut count.lone);
+        let found =
+            judge.and_then(|mut judge| judge.drawn(&mut Random::new(seed), drawn.accounts, turns));
+        count.add(&word, &index, &format!("{} lone links", shape.1), found);
+
         // A question costs about one build.
         let (each, in_a_row) = match pairs.len() {
             0..=80 => (14, 14),
@@ -207,11 +234,10 @@ fn seed(count: &mut Count, seed: u64) {
 
 /// The comparison itself: it must find each fault planted in a call.
 fn planted_faults(count: &mut Count) {
-    let named = |(name, found): (&str, bool)| (name.to_string(), found);
-    let calls = planted::found()
-        .into_iter()
-        .chain(planted_questions::found());
-    for (name, found) in calls.map(named).chain(planted_changes::found()) {
+    let calls = { planted::found().into_iter() }
+        .chain(planted_questions::found())
+        .chain(planted_changes::found());
+    for (name, found) in calls {
         if found {
             count.passed += 1;
         } else {
@@ -263,7 +289,7 @@ fn as_said(limit: &limits::Limit, index: Option<Vec<u8>>) -> Result<(), String> 
     }
 }
 
-/// Questions whose answers are known without the reference, and a list.
+/// Questions whose answers are known without the reference, and lists.
 fn known_answers(count: &mut Count, only: Option<&str>) {
     let wanted = |name: &str| only.is_none_or(|only| only == name);
     for (at, known) in known::all().iter().enumerate() {
@@ -282,9 +308,10 @@ fn known_answers(count: &mut Count, only: Option<&str>) {
         let what = format!("asked {:?}", known.question);
         count.add(&known.name, &index, &what, found);
     }
-    if wanted("every-kind-listed") {
-        let (index, found) = listing::known();
-        count.add("every-kind-listed", &index, "listed", found);
+    for (name, index, found) in listing::known() {
+        if wanted(name) {
+            count.add(name, &index, "listed", found);
+        }
     }
 }
 
@@ -311,6 +338,22 @@ fn in_order(count: &mut Count, only: Option<&str>) {
             }
         }
         count.asked.merge(&asker.met);
+    }
+}
+
+/// Small cards whole and cards of many lone links, judged from the links alone, and each under other heads.
+fn lone_links(count: &mut Count, only: Option<&str>) {
+    let wanted = |name: &str| only.is_none_or(|only| only == name);
+    for (accounts, links) in lone::cards() {
+        let file = links_file(accounts, &links);
+        let index = known::index_of(&file);
+        if wanted("lone-links") {
+            let found = lone::judge(terminal::ask, &mut count.lone, accounts, &links);
+            count.add("lone-links", &index, "judged", found);
+        }
+        if wanted("other-heads") {
+            count.other_heads(&mut Random::new(1), "other-heads", &file, &index);
+        }
     }
 }
 
@@ -364,6 +407,7 @@ fn main() -> ExitCode {
             at_the_limits(&mut count, None);
             known_answers(&mut count, None);
             in_order(&mut count, None);
+            lone_links(&mut count, None);
             changes_in_order(&mut count, None);
             rows(&mut count, None);
             (0..SEEDS).for_each(|number| seed(&mut count, number));
@@ -371,8 +415,14 @@ fn main() -> ExitCode {
                 "links files accepted, and refused by 1 to 6: {:?}",
                 count.met
             );
-            let (asked, changed) = (count.asked.show(), count.changed.show());
-            if count.met.contains(&0) || !asked || !changed {
+            let (asked, changed, lone) =
+                (count.asked.show(), count.changed.show(), count.lone.show());
+            println!(
+                "cards under other heads, without a lone link and with some: {:?}",
+                count.heads
+            );
+            let met = [count.met.as_slice(), &count.heads].concat();
+            if met.contains(&0) || !asked || !changed || !lone {
                 count.failed += 1;
                 println!("FAILED: some refusal or answer was never met");
             }
@@ -383,6 +433,7 @@ fn main() -> ExitCode {
                 at_the_limits(&mut count, Some(&word));
                 known_answers(&mut count, Some(&word));
                 in_order(&mut count, Some(&word));
+                lone_links(&mut count, Some(&word));
                 changes_in_order(&mut count, Some(&word));
                 rows(&mut count, Some(&word));
             }

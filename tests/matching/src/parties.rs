@@ -20,6 +20,11 @@ fn party(accounts: u16, links: &[(u16, u16)]) -> Party {
     Party { accounts, links }
 }
 
+/// Two people: a lone link, of strength 2.
+pub fn pair() -> Party {
+    strip(2)
+}
+
 pub fn triangle() -> Party {
     strip(3)
 }
@@ -85,14 +90,16 @@ pub fn beside(parties: &[Party]) -> Party {
     all
 }
 
-/// One of every kind, and a second triangle. Group 0 lies in the nested one; 1 to 3 have strength 4 and hold 4, 5 and 6 accounts; 4 to 10 have strength 3 and hold 3,
-/// 5, 4, 5, 6, 7 and 3.
+/// One of every kind, and a second triangle and pair. Group 0 lies in the nested one; 1 to 3 have strength 4 and hold 4, 5 and 6 accounts; 4 to 10 have strength 3 and
+/// hold 3, 5, 4, 5, 6, 7 and 3; 11 and 12 are the pairs, though the first has the least of all links.
 pub fn every_kind() -> Party {
     beside(&[
+        pair(),
         triangle(),
         clique(4),
         book(5),
         strip(4),
+        pair(),
         wheel(5),
         nested(6),
         five_less_one(),
@@ -109,6 +116,7 @@ pub fn all() -> impl Iterator<Item = Lot> {
 /// Two and three parties: on the account in common, which is the first and then, the accounts turned round, the last.
 fn few() -> impl Iterator<Item = Lot> {
     let kinds = [
+        pair(),
         triangle(),
         strip(4),
         book(5),
@@ -135,11 +143,12 @@ fn few() -> impl Iterator<Item = Lot> {
 
 fn lot(common: u16, accounts: u16, links: &Pairs) -> Lot {
     let it = named(&[common]);
-    let asked = [C(it.clone(), 3), C(it.clone(), 4), D(it.clone()), E(it)];
+    let at = [2, 3, 4].map(|k| C(it.clone(), k));
+    let asked = at.into_iter().chain([D(it.clone()), E(it.clone())]);
     Lot {
         name: "parties",
         index: index_of(&links_file(accounts, links)),
-        asked: asked.map(|question| (question, None)).into(),
+        asked: asked.map(|question| (question, None)).collect(),
     }
 }
 
@@ -149,7 +158,8 @@ fn drawn() -> impl Iterator<Item = Lot> {
     (0..200).map(move |_| {
         let most = random.pick(&[4, 12, 60]);
         let row: Vec<_> = { 0..random.within(2..=most) }
-            .map(|_| match random.below(8) {
+            .map(|_| match random.below(9) {
+                8 => pair(),
                 0..=2 => strip(random.within(3..=9) as u16),
                 3 => book(random.within(3..=7) as u16),
                 4 => wheel(random.within(5..=9) as u16),

@@ -3,9 +3,11 @@
 use crate::changed::{Alter, Changer, Plain, Row};
 use crate::changes::{draw, rows};
 use crate::known::card_b;
+use crate::lent::RULES;
 use crate::limits::flat;
-use crate::planted::flip;
+use crate::planted::{flip, headed, WRONG};
 use reference::card::{links_file, Card};
+use reference::index::Index;
 use reference::random::Random;
 use reference::records::two;
 use terminal::Change::{self, PutIn, Withdraw};
@@ -133,7 +135,7 @@ unsafe fn altered_otherwise(
     let mut file = [0; INDEX_MAX];
     let read = terminal::read(&room[..done.value as usize], &mut file);
     let file = &file[..read.value as usize];
-    let mut plain = Plain::of(&Card::read(crate::lent::RULES, file).expect("a links file"));
+    let mut plain = Plain::of(&Card::read(RULES, file).expect("a links file"));
     wrong(&mut plain);
     write(&plain.built(), out)
 }
@@ -337,8 +339,38 @@ unsafe fn changed_after_the_old(change: Change, index: Slice, out: Slice) -> Rep
     reply
 }
 
+unsafe fn kind_1_taken(change: Change, index: Slice, out: Slice) -> Reply {
+    let mut index = headed(7, index.0, index.1);
+    alter(change, (index.as_mut_ptr(), index.len()), out)
+}
+
+unsafe fn kind_1_written(change: Change, index: Slice, out: Slice) -> Reply {
+    then(change, index, out, |written| written[0] = 1)
+}
+
+/// A wrong index of the altered links.
+unsafe fn wrong_index<const AT: usize>(change: Change, index: Slice, out: Slice) -> Reply {
+    let mut room = [0; INDEX_MAX];
+    let done = alter(change, index, (room.as_mut_ptr(), room.len()));
+    if done.refusal != 0 {
+        return alter(change, index, out);
+    }
+    let mut altered = Index::read(RULES, &room[..done.value as usize]).expect("an index");
+    WRONG[AT].1(&mut altered);
+    write(&altered.to_bytes(RULES), out)
+}
+
 /// Each fault, and whether a row meets it: the bytes given there are always an index.
-const FAULTS: [(&str, Alter, bool); 36] = [
+const FAULTS: [(&str, Alter, bool); 45] = [
+    (WRONG[0].0, wrong_index::<0>, true),
+    (WRONG[1].0, wrong_index::<1>, true),
+    (WRONG[2].0, wrong_index::<2>, true),
+    (WRONG[3].0, wrong_index::<3>, true),
+    (WRONG[4].0, wrong_index::<4>, true),
+    (WRONG[5].0, wrong_index::<5>, true),
+    (WRONG[6].0, wrong_index::<6>, true),
+    ("an index of kind 1 altered", kind_1_taken, false),
+    ("kind 1 written", kind_1_written, true),
     ("a link put in at the end", put_at_the_end, true),
     ("the higher account first", higher_first, true),
     ("an account less", one_account_less, true),
@@ -388,24 +420,27 @@ const FAULTS: [(&str, Alter, bool); 36] = [
 /// So many single changes find every fault.
 const CHANGES: usize = 2_000;
 
-/// On card B with a weak link, one in eight on its index damaged, on a card of 2,047 links, on one of 2,048.
+/// On card B with lone links, one in eight each on its index damaged, on that index under kind 1, on a card of 2,047 links, on one of 2,048.
 fn found_by_one(alter: Alter) -> bool {
     let plain = |accounts, links: &[(u16, u16)]| {
         let file = links_file(accounts, links);
-        Plain::of(&Card::read(crate::lent::RULES, &file).expect("a good links file"))
+        Plain::of(&Card::read(RULES, &file).expect("a good links file"))
     };
-    let small = plain(9, &[&card_b()[..], &[(1, 7)]].concat());
+    let small = plain(9, &[&card_b()[..], &[(1, 7), (7, 8)]].concat());
     let large = [2_047, 2_048].map(|links| plain(96, &flat(links)));
-    let mut damaged = small.built();
+    let (mut damaged, mut turned) = (small.built(), small.built());
     damaged[10] += 1;
-    let [mut random, mut first, mut second, mut third, mut fourth] =
-        [1, 2, 3, 4, 5].map(Random::new);
+    turned[0] = 1;
+    let [mut random, mut first, mut second, mut third, mut fourth, mut fifth] =
+        [1, 2, 3, 4, 5, 6].map(Random::new);
     let mut on_small = Changer::new(alter, &mut first, &small, &small.built(), true);
     let mut on_damaged = Changer::new(alter, &mut second, &small, &damaged, false);
     let mut on_2047 = Changer::new(alter, &mut third, &large[0], &large[0].built(), true);
     let mut on_2048 = Changer::new(alter, &mut fourth, &large[1], &large[1].built(), true);
+    let mut on_turned = Changer::new(alter, &mut fifth, &small, &turned, false);
     (0..CHANGES).any(|at| {
         let (plain, changer) = match at % 8 {
+            4 => (&small, &mut on_turned),
             5 => (&large[0], &mut on_2047),
             6 => (&large[1], &mut on_2048),
             7 => (&small, &mut on_damaged),

@@ -8,7 +8,7 @@ use reference::questions::Ends;
 use reference::random::Random;
 use terminal::Question;
 
-/// An index, with the accounts that each group holds, and those that two groups of one strength hold.
+/// An index, with the accounts that each group holds, and those that two groups of one strength from 3 up hold.
 pub struct Asking {
     index: Index,
     held: Vec<Vec<u16>>,
@@ -41,7 +41,9 @@ impl Asking {
         let mut shared = BTreeSet::new();
         for (group, accounts) in index.groups.iter().zip(&held) {
             let twice = |account: &&u16| !met.insert((group.strength, **account));
-            shared.extend(accounts.iter().filter(twice).copied());
+            if group.strength > 2 {
+                shared.extend(accounts.iter().filter(twice).copied());
+            }
         }
         let row = |set: BTreeSet<u16>| set.into_iter().collect();
         Asking {
@@ -126,13 +128,20 @@ impl Asking {
         self.link_where(random, at)
     }
 
-    /// A link that names a group, any group as likely as another; in an index without groups any link.
+    /// A link that names a group; in an index without links two accounts.
     fn link_of_group(&self, random: &mut Random) -> Ends {
-        let group = match self.index.groups.len() {
-            0 => None,
-            groups => Some(random.below(groups) as u16),
-        };
+        let group = self.group(random).map(|group| group as u16);
         self.link_where(random, |link| link.group == group)
+    }
+
+    /// A group, every other time one from 3 up if there is such: lone links may be many.
+    fn group(&self, random: &mut Random) -> Option<usize> {
+        let groups = &self.index.groups;
+        match groups.partition_point(|group| group.strength > 2) {
+            _ if groups.is_empty() => None,
+            above @ 1.. if random.one_in(2) => Some(random.below(above)),
+            _ => Some(random.below(groups.len())),
+        }
     }
 
     fn link_where(&self, random: &mut Random, wanted: impl Fn(&StrongLink) -> bool) -> Ends {
@@ -157,8 +166,8 @@ impl Asking {
         let joined = self.joined(first, second);
         match random.below(4) {
             0 => self.level(random),
-            _ if joined == 0 => 3,
-            1 => random.within(3..=joined.into()) as u32,
+            _ if joined == 0 => random.pick(&[2, 3]),
+            1 => random.within(2..=joined.into()) as u32,
             _ => u32::from(joined) + random.pick(&[0, 0, 1]),
         }
     }
@@ -180,18 +189,18 @@ impl Asking {
 
     /// A level, mostly around the strength of some group.
     fn level(&self, random: &mut Random) -> u32 {
-        let good = random.within(3..=64) as u32;
+        let good = random.within(2..=64) as u32;
         match random.below(12) {
-            0 => random.pick(&[0, 1, 2, 65, 66, 255, 256, 0xFFFF, 0x1_0000, u32::MAX]),
+            0 => random.pick(&[0, 1, 1, 65, 66, 255, 256, 0xFFFF, 0x1_0000, u32::MAX]),
             1 => good + random.pick(&[1 << 8, 1 << 16, 1 << 24, 1 << 31]),
             2 => random.number() as u32,
-            3 => random.pick(&[3, 64]),
+            3 => random.pick(&[2, 64]),
             4 => good,
-            5 | 6 => 3,
-            _ if self.index.groups.is_empty() => 3,
+            5 | 6 => random.pick(&[2, 3]),
             _ => {
-                let group = self.index.groups[random.below(self.index.groups.len())];
-                (u32::from(group.strength) + random.pick(&[0, 0, 1, 2])) - random.below(2) as u32
+                let group = self.group(random).map(|group| self.index.groups[group]);
+                let strength = group.map_or(2, |group| u32::from(group.strength));
+                (strength + random.pick(&[0, 0, 1, 2])) - random.below(2) as u32
             }
         }
     }
@@ -206,10 +215,10 @@ impl Asking {
             _ => random.within(2..=3),
         };
         let all: Vec<u16> = (0..self.index.accounts).collect();
-        let of_group = |random: &mut Random| match self.held.len() {
-            0 => &all,
+        let of_group = |random: &mut Random| match self.group(random) {
             _ if !self.shared.is_empty() && random.one_in(2) => &self.shared,
-            groups => &self.held[random.below(groups)],
+            None => &all,
+            Some(group) => &self.held[group],
         };
         let from = [of_group(random), of_group(random)];
         let strangers = random.one_in(4);

@@ -1,7 +1,7 @@
 //! The calls of include/footballelm.h, as a C host makes them.
 
 /// So many requests of document 02 are in the library; the reference goes by this number.
-pub const REQUESTS: u8 = 6;
+pub const REQUESTS: u8 = 7;
 
 /// FE_INDEX_MAX, and FE_CHAIN_MAX, which is enough for any answer.
 pub const INDEX_MAX: usize = 40_960;
