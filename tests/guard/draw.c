@@ -100,10 +100,22 @@ static void add_parties(struct random *r, struct turn *t) {
     put_two(t->card + 1, LAST + 1);
 }
 
+/* Links in no triangle: a star, a row, pairs apart, or each of some accounts with each of a few others; every other time a triangle with them. */
+static void add_lone(struct random *r, struct turn *t, uint32_t accounts, uint32_t others) {
+    uint32_t kind = random_below(r, 4);
+    put_two(t->card + 1, accounts + others);
+    for (uint32_t a = 1; a < accounts; a++) {
+        if (kind == 0) add_link(t, a, 0);
+        if (kind == 1 || (kind == 2 && a % 2)) add_link(t, a - 1, a);
+        for (uint32_t b = accounts; kind == 3 && b < accounts + others; b++) add_link(t, a, b);
+    }
+    if (random_below(r, 2)) add_clique(r, t, random_below(r, accounts), 3, 0);
+}
+
 static void draw_card(struct random *r, struct turn *t) {
     uint32_t few = 1 + random_below(r, 12);
     start_card(t, few);
-    switch (random_below(r, 10)) {
+    switch (random_below(r, 11)) {
     case 0: break;
     case 1: add_random_links(r, t, few * few / 2); break;
     case 2: put_two(t->card + 1, few + 1), add_clique(r, t, 0, few, 0); break;
@@ -113,12 +125,17 @@ static void draw_card(struct random *r, struct turn *t) {
     case 6: put_two(t->card + 1, 20 + random_below(r, 20)), add_random_links(r, t, 60 + random_below(r, 100)); break;
     case 7: add_cliques(r, t, 4), put_two(t->card + 1, random_below(r, 2) ? ACCOUNTS : 40), add_random_links(r, t, 20); break;
     case 8: add_parties(r, t); break;
+    case 9: add_lone(r, t, few + 1, 3); break;
     default: put_two(t->card + 1, 1 + random_below(r, 60)), add_random_links(r, t, 40); break;
     }
     if (random_below(r, 400) == 0) { /* seldom a card at the limits: it takes long */
         start_card(t, ACCOUNTS);
-        if (random_below(r, 2)) add_clique(r, t, 0, 64, 0);
-        else add_strip(t, ACCOUNTS, random_below(r, 2) == 0);
+        switch (random_below(r, 4)) {
+        case 0: add_clique(r, t, 0, 64, 0); break;
+        case 1: add_strip(t, ACCOUNTS, random_below(r, 2) == 0); break;
+        case 2: add_lone(r, t, 33, 64); break;
+        default: add_lone(r, t, ACCOUNTS - 1, 1), count_links(t); return;
+        }
         while (links_in(t) < LINKS + random_below(r, 2)) add_random_links(r, t, 50);
         if (links_in(t) > LINKS && random_below(r, 8)) t->card_len = 5 + 5 * (size_t)LINKS + 1, t->card[t->card_len - 1] = 5;
     }
@@ -253,8 +270,8 @@ static void draw_accounts(struct random *r, struct turn *t) {
 }
 
 static void draw_level(struct random *r, struct turn *t) {
-    static const uint32_t EDGES[] = {0, 1, 2, 63, 64, 65, 66, 67, 255, 256, 259, UINT32_C(0x10003), UINT32_C(0x80000003), UINT32_MAX};
-    t->k = random_below(r, 10) ? 3 + random_below(r, 1 + random_below(r, 5)) : EDGES[random_below(r, sizeof EDGES / sizeof *EDGES)];
+    static const uint32_t EDGES[] = {0, 1, 1, 63, 64, 65, 66, 67, 255, 256, 258, 259, UINT32_C(0x10002), UINT32_C(0x10003), UINT32_C(0x80000003), UINT32_MAX};
+    t->k = random_below(r, 10) ? 2 + random_below(r, 1 + random_below(r, 6)) : EDGES[random_below(r, sizeof EDGES / sizeof *EDGES)];
 }
 
 static void draw_tally(struct random *r, struct turn *t) {
@@ -293,13 +310,14 @@ static void draw_room(struct random *r, struct turn *t) {
 }
 
 static void draw_edit(struct random *r, struct turn *t) {
-    static const uint16_t EDGES[] = {0, 1, 2, 3, 4, 5, 6, 0xFF, 0x100, 0xFFFF, 0xFFFE, 1024, 2048};
+    static const uint16_t EDGES[] = {0, 1, 2, 3, 4, 5, 6, 7, 0xFF, 0x100, 0xFFFF, 0xFFFE, 1024, 2048};
     if (t->edits < TURN_EDITS && random_below(r, 3)) t->edits++;
     if (t->edits == 0) return;
     struct edit *edit = &t->edit[random_below(r, t->edits)];
     edit->kind = (uint8_t)random_below(r, EDIT_KINDS), edit->count = (uint8_t)(1 + random_below(r, random_below(r, 2) ? 8 : 255));
     edit->at = (uint16_t)random_number(r);
     edit->value = random_below(r, 2) ? EDGES[random_below(r, sizeof EDGES / sizeof *EDGES)] : (uint16_t)random_number(r);
+    if (random_below(r, 8) == 0) edit->kind = SET, edit->at = 0, edit->value = t->call == BUILD ? 7 : 1; /* the other file's head */
 }
 
 void draw_fresh(struct random *r, struct turn *t) {

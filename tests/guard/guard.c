@@ -25,6 +25,12 @@ static const uint8_t REFUSALS[CALLS][8] = {
     {7, 8, 9, 12, 13}, {7, 9, 10, 11, 12, 13}, {7, 9, 10, 11, 12, 13},
 };
 
+/* Answers with lone links, and those at 2 without. */
+static const char *const LONE[LONES] = {
+    "B of a lone link with itself", "C at 2 of lone links", "C at 2 of others", "C at 2 of both", "D of lone links", "E of lone links and others",
+    "F at 2 of a lone link", "F at 2 of others", "G at 2 of a lone link with itself", "G at 2 of another with itself",
+};
+
 struct kept {
     uint8_t *data;
     size_t size;
@@ -32,7 +38,7 @@ struct kept {
 
 static struct kept kept[KEPT];
 static size_t kept_count;
-static uint64_t passed, failed, made, met_count[CALLS][REPLIES], reordered[CALLS], answered[FE_WINDOWS];
+static uint64_t passed, failed, made, met_count[CALLS][REPLIES], reordered[CALLS], other_heads[CALLS], lone[LONES + 1], answered[FE_WINDOWS];
 
 static uint8_t data[TURN_MAX];
 static struct turn turn, other;
@@ -100,6 +106,7 @@ static int one(const struct turn *t) {
     }
     passed++;
     met_count[met.call][met.reply.refusal]++, reordered[met.call] += (uint64_t)met.reordered;
+    other_heads[met.call] += (uint64_t)met.other_head, lone[met.lone]++;
     if (is_question(met.call) && met.reply.refusal == 0) answered[t->window]++;
     return coverage_blocks() ? coverage_look() != 0 : is_new_reply(&met);
 }
@@ -143,10 +150,17 @@ static void show_met(void) {
             all &= met_count[call][*refusal] > 0;
         }
         if (has_accounts(call)) printf(", groups in another order than the index's: %llu", (unsigned long long)reordered[call]), all &= reordered[call] > 0;
-        printf("\n");
+        printf(", by the other file's head: %llu\n", (unsigned long long)other_heads[call]);
+        all &= other_heads[call] > 0;
         if (all) continue;
         failed++;
         printf("FAILED guard: some reply or order of %s was never met\n", name_of(call));
+    }
+    for (int kind = 0; kind < LONES; kind++) {
+        printf("  %s: %llu\n", LONE[kind], (unsigned long long)lone[kind]);
+        if (lone[kind]) continue;
+        failed++;
+        printf("FAILED guard: no answer was %s\n", LONE[kind]);
     }
     uint64_t least = answered[0];
     for (int window = 1; window < FE_WINDOWS; window++) least = answered[window] < least ? answered[window] : least;
@@ -156,7 +170,30 @@ static void show_met(void) {
     printf("FAILED guard: some window was never answered\n");
 }
 
-/* The turns must find each planted fault. */
+static void count_planted(const char *name, int found) {
+    if (found) {
+        passed++;
+    } else {
+        failed++;
+        printf("FAILED guard: planted fault not found: %s\n", name);
+    }
+}
+
+/* Whether a wrong index is seen, given the sorted links alone. */
+static int seen_in_links(library *build, uint64_t seed) {
+    static uint8_t sorted[FE_LINKS_MAX], index[FE_INDEX_MAX];
+    struct random random = {seed};
+    for (int turns = 0; turns < PLANTED_TURNS; turns++) {
+        draw_fresh(&random, &turn);
+        struct asked asked = {.call = BUILD, .read = {turn.card, turn.card_len}, .buffer = {index, sizeof index}};
+        if (build(&asked).refusal) continue;
+        right_sorted(turn.card, sorted);
+        if (!right_lone(sorted, index)) return 1;
+    }
+    return 0;
+}
+
+/* The turns must find each planted fault, and the links each wrong index. */
 static void planted_faults(void) {
     for (size_t i = 0; i < PLANTED_COUNT; i++) {
         struct random random = {i + 1};
@@ -168,13 +205,9 @@ static void planted_faults(void) {
             turn.call = (uint8_t)PLANTED[i].of;
             found = turn_run(PLANTED[i].call, &turn, &met) != NULL;
         }
-        if (found) {
-            passed++;
-        } else {
-            failed++;
-            printf("FAILED guard: planted fault not found: %s\n", PLANTED[i].name);
-        }
+        count_planted(PLANTED[i].name, found);
     }
+    for (size_t i = 0; i < WRONG_COUNT; i++) count_planted(WRONG[i].name, seen_in_links(WRONG[i].call, i + 1));
 }
 
 static int from_hex(const char *name) {

@@ -365,11 +365,28 @@ static fe_reply chain_back(const struct asked *a) {
     return reply;
 }
 
+static int is_itself(const struct asked *a) {
+    const uint32_t *n = a->number;
+    return (n[0] == n[2] && n[1] == n[3]) || (n[0] == n[3] && n[1] == n[2]);
+}
+
 static fe_reply none_with_itself(const struct asked *a) {
     fe_reply reply = make_call(a);
-    const uint32_t *n = a->number;
-    int itself = (n[0] == n[2] && n[1] == n[3]) || (n[0] == n[3] && n[1] == n[2]);
-    if (reply.refusal == 0 && itself) reply.value = 2, a->buffer.at[0] = a->buffer.at[1] = 0;
+    if (reply.refusal == 0 && is_itself(a)) reply.value = 2, a->buffer.at[0] = a->buffer.at[1] = 0;
+    return reply;
+}
+
+static fe_reply none_with_itself_at_2(const struct asked *a) {
+    return a->k == 2 ? none_with_itself(a) : make_call(a);
+}
+
+/* A triangle of the link's two accounts and one of them again. */
+static fe_reply one_with_itself_at_2(const struct asked *a) {
+    fe_reply reply = make_call(a);
+    if (reply.refusal || reply.value != 2 || a->k != 2 || !is_itself(a)) return reply;
+    if (a->buffer.length < 8) return (fe_reply){12, 0, 0, 0};
+    put_two(a->buffer.at, 1), reply.value = 8;
+    for (int i = 0; i < 3; i++) put_two(a->buffer.at + 2 + 2 * i, a->number[i]);
     return reply;
 }
 
@@ -378,6 +395,276 @@ static fe_reply second_link_first(const struct asked *a) {
     for (int i = 0; i < 2; i++) other.number[i] = a->number[i + 2];
     fe_reply reply = make_call(&other);
     return reply.refusal == 10 || reply.refusal == 11 ? reply : make_call(a);
+}
+
+/* ---- lone links ---- */
+
+static fe_reply at_level(const struct asked *a, uint32_t from, uint32_t to) {
+    struct asked other = *a;
+    if (other.k == from) other.k = to;
+    return make_call(&other);
+}
+
+static fe_reply level_2_refused(const struct asked *a) {
+    return at_level(a, 2, 1);
+}
+
+static fe_reply level_1_taken(const struct asked *a) {
+    return at_level(a, 1, 2);
+}
+
+static fe_reply three_for_two(const struct asked *a) {
+    return at_level(a, 2, 3);
+}
+
+static fe_reply two_for_three(const struct asked *a) {
+    return at_level(a, 3, 2);
+}
+
+/* Only the groups of strength 2 of an answer, or only the others. */
+static fe_reply keep_groups(const struct asked *a, int lone) {
+    fe_reply reply = make_call(a);
+    if (reply.refusal) return reply;
+    uint32_t count = two(a->buffer.at), kept = 0;
+    for (uint32_t i = 0; i < count; i++) {
+        uint32_t group = two(a->buffer.at + 2 + 2 * (size_t)i);
+        if ((judge(a->read.at, group).strength == 2) == lone) put_two(a->buffer.at + 2 + 2 * (size_t)kept++, group);
+    }
+    put_two(a->buffer.at, kept), reply.value = 2 + 2 * kept;
+    return reply;
+}
+
+static fe_reply lone_left_out(const struct asked *a) {
+    return keep_groups(a, 0);
+}
+
+static fe_reply lone_only_at_2(const struct asked *a) {
+    return a->k == 2 ? keep_groups(a, 1) : make_call(a);
+}
+
+/* All groups, and of those from 3 up only the strongest. */
+static fe_reply lone_beside_strongest(const struct asked *a) {
+    struct asked other = *a;
+    other.call = ALL_GROUPS;
+    fe_reply reply = make_call(&other);
+    if (reply.refusal) return reply;
+    uint32_t count = two(a->buffer.at), kept = 0;
+    int greatest = 0;
+    for (uint32_t i = 0; i < count; i++) {
+        struct judged g = judge(a->read.at, two(a->buffer.at + 2 + 2 * (size_t)i));
+        if (g.strength > greatest) greatest = g.strength;
+        if (g.strength == 2 || g.strength == greatest) put_two(a->buffer.at + 2 + 2 * (size_t)kept++, (uint32_t)g.number);
+    }
+    put_two(a->buffer.at, kept), reply.value = 2 + 2 * kept;
+    return reply;
+}
+
+/* Each group by its number in an index that has the lone links first. */
+static fe_reply lone_numbered_first(const struct asked *a) {
+    fe_reply reply = make_call(a);
+    if (reply.refusal) return reply;
+    uint32_t lone = 0, others = 0;
+    for (const uint8_t *link = a->read.at + 5; *link == 2; link += 8) lone += link[5] == 2;
+    for (const uint8_t *group = a->read.at + a->read.length - 7; *group == 4; group -= 6) others += group[3] > 2;
+    for (uint32_t i = 0; i < two(a->buffer.at); i++) {
+        uint8_t *at = a->buffer.at + 2 + 2 * (size_t)i;
+        put_two(at, two(at) < others ? two(at) + lone : two(at) - others);
+    }
+    return reply;
+}
+
+static fe_reply lone_with_itself_0(const struct asked *a) {
+    fe_reply reply = make_call(a);
+    if (reply.refusal == 0 && reply.value == 2) reply.value = 0;
+    return reply;
+}
+
+static fe_reply different_joined_at_2(const struct asked *a) {
+    fe_reply reply = make_call(a);
+    if (reply.refusal == 0 && reply.value == 0) reply.value = 2;
+    return reply;
+}
+
+/* F at 2: the link that is named, of whatever group. */
+static fe_reply alone_at_2(const struct asked *a) {
+    fe_reply reply = make_call(a);
+    if (reply.refusal || a->k != 2) return reply;
+    uint32_t link = 0, low = a->number[0] < a->number[1] ? a->number[0] : a->number[1], high = a->number[0] + a->number[1] - low;
+    for (const uint8_t *record = a->read.at + 5; two(record + 1) != low || two(record + 3) != high; record += 8) link++;
+    put_two(a->buffer.at, 1), put_two(a->buffer.at + 2, link), reply.value = 4;
+    return reply;
+}
+
+/* What is read, under the head of a file that it is not. */
+static fe_reply under_head(const struct asked *a, uint8_t head) {
+    static uint8_t bytes[1 << 16];
+    struct asked other = *a;
+    if (a->read.length && (a->read.at[0] == 1 || a->read.at[0] == 7)) {
+        memcpy(bytes, a->read.at, a->read.length), bytes[0] = head;
+        other.read.at = bytes;
+    }
+    return make_call(&other);
+}
+
+static fe_reply kind_1_taken(const struct asked *a) {
+    return under_head(a, 7);
+}
+
+static fe_reply kind_7_built(const struct asked *a) {
+    return under_head(a, 1);
+}
+
+static fe_reply other_head_written(const struct asked *a) {
+    fe_reply reply = make_call(a);
+    if (reply.refusal == 0) a->buffer.at[0] = a->call == READ ? 7 : 1;
+    return reply;
+}
+
+/* The groups of an index: what each link names, and of each group its parent, strength and least link. */
+struct tree {
+    const uint8_t *links;
+    uint32_t link_count, group_count;
+    uint32_t named[2048];
+    struct stored {
+        uint32_t parent, strength, least;
+    } group[2048];
+};
+
+enum { NO_GROUP = 0xFFFF };
+
+static void read_tree(const uint8_t *index, struct tree *t) {
+    const uint8_t *group = index + 5 + 8 * (size_t)two(index + 3);
+    t->links = index + 5, t->link_count = two(index + 3), t->group_count = 0;
+    for (uint32_t i = 0; i < t->link_count; i++) t->named[i] = two(t->links + 8 * (size_t)i + 6);
+    while (*group == 3) group += 6;
+    for (; *group == 4; group += 6) t->group[t->group_count++] = (struct stored){two(group + 1), group[3], two(group + 4)};
+}
+
+static int is_lone(const struct tree *t, uint32_t group) {
+    return t->group[group].strength == 2;
+}
+
+/* The groups at these old numbers are kept, in this order; what named another has none. */
+static void renumber(struct tree *t, const uint32_t *kept, uint32_t count) {
+    static struct stored group[2048];
+    static uint32_t number[NO_GROUP + 1];
+    memset(number, 0xFF, sizeof number);
+    for (uint32_t i = 0; i < count; i++) number[kept[i]] = i, group[i] = t->group[kept[i]];
+    for (uint32_t i = 0; i < count; i++) t->group[i] = group[i], t->group[i].parent = number[group[i].parent] & NO_GROUP;
+    for (uint32_t i = 0; i < t->link_count; i++) t->named[i] = number[t->named[i]] & NO_GROUP;
+    t->group_count = count;
+}
+
+static void in_no_group(struct tree *t) {
+    uint32_t kept[2048], count = 0;
+    for (uint32_t i = 0; i < t->group_count; i++)
+        if (!is_lone(t, i)) kept[count++] = i;
+    renumber(t, kept, count);
+}
+
+static void before_the_others(struct tree *t) {
+    uint32_t kept[2048], count = 0;
+    for (uint32_t lone = 2; lone-- > 0;)
+        for (uint32_t i = 0; i < t->group_count; i++)
+            if (is_lone(t, i) == (int)lone) kept[count++] = i;
+    renumber(t, kept, count);
+}
+
+static void by_falling_link(struct tree *t) {
+    uint32_t kept[2048], count = 0;
+    for (uint32_t i = 0; i < t->group_count; i++)
+        if (!is_lone(t, i)) kept[count++] = i;
+    for (uint32_t i = t->group_count; i-- > count;) kept[t->group_count - 1 - i + count] = i;
+    renumber(t, kept, t->group_count);
+}
+
+/* The last of the other groups is the parent. */
+static void with_a_parent(struct tree *t) {
+    uint32_t last = NO_GROUP;
+    for (uint32_t i = 0; i < t->group_count; i++) {
+        if (is_lone(t, i)) t->group[i].parent = last;
+        else last = i;
+    }
+}
+
+static int share(const uint8_t *link, const uint8_t *other) {
+    uint32_t a = two(link + 1), b = two(link + 3), c = two(other + 1), d = two(other + 3);
+    return a == c || a == d || b == c || b == d;
+}
+
+/* A lone link is in the group of the first other link that shares an account with it, if that is lone, or if it is not. */
+static void to_another(struct tree *t, int lone) {
+    uint32_t kept[2048], count = 0;
+    for (uint32_t i = 0; i < t->link_count; i++) {
+        const uint8_t *link = t->links + 8 * (size_t)i;
+        for (uint32_t j = 0; j < t->link_count && link[5] == 2; j++) {
+            const uint8_t *other = t->links + 8 * (size_t)j;
+            if (i == j || (other[5] == 2) != lone || !share(link, other)) continue;
+            t->named[i] = t->named[j];
+            break;
+        }
+    }
+    for (uint32_t i = 0; i < t->group_count; i++) {
+        uint32_t link = 0;
+        while (link < t->link_count && t->named[link] != i) link++;
+        if (link < t->link_count) kept[count++] = i;
+    }
+    renumber(t, kept, count);
+}
+
+static void put_together(struct tree *t) {
+    to_another(t, 1);
+}
+
+static void in_the_group_beside(struct tree *t) {
+    to_another(t, 0);
+}
+
+/* The index that a build or a change writes, with other groups. */
+static fe_reply with_tree(const struct asked *a, void change(struct tree *)) {
+    static uint8_t index[FE_INDEX_MAX];
+    static struct tree tree;
+    struct asked other = *a;
+    other.buffer = (struct slice){index, sizeof index};
+    fe_reply reply = make_call(&other);
+    if (reply.refusal) return reply;
+    read_tree(index, &tree), change(&tree);
+    uint8_t *at = index + 5;
+    for (uint32_t i = 0; i < tree.link_count; i++, at += 8) put_two(at + 6, tree.named[i]);
+    while (*at == 3) at += 6;
+    for (uint32_t i = 0; i < tree.group_count; i++, at += 6) {
+        struct stored g = tree.group[i];
+        at[0] = 4, put_two(at + 1, g.parent), at[3] = (uint8_t)g.strength, put_two(at + 4, g.least);
+    }
+    *at++ = 5;
+    reply.value = (uint32_t)(at - index);
+    if (reply.value > a->buffer.length) return (fe_reply){12, 0, 0, 0};
+    memcpy(a->buffer.at, index, reply.value);
+    return reply;
+}
+
+static fe_reply lone_in_no_group(const struct asked *a) {
+    return with_tree(a, in_no_group);
+}
+
+static fe_reply lone_put_together(const struct asked *a) {
+    return with_tree(a, put_together);
+}
+
+static fe_reply lone_in_the_group_beside(const struct asked *a) {
+    return with_tree(a, in_the_group_beside);
+}
+
+static fe_reply lone_with_a_parent(const struct asked *a) {
+    return with_tree(a, with_a_parent);
+}
+
+static fe_reply lone_before_the_others(const struct asked *a) {
+    return with_tree(a, before_the_others);
+}
+
+static fe_reply lone_by_falling_link(const struct asked *a) {
+    return with_tree(a, by_falling_link);
 }
 
 /* ---- changes ---- */
@@ -613,7 +900,56 @@ static fe_reply reads_tally_of_no_window(const struct asked *a) {
     return make_call(a);
 }
 
+const struct planted WRONG[] = {
+    {"lone links in no group, seen in the links", BUILD, lone_in_no_group},
+    {"lone links that share an account in one group, seen in the links", BUILD, lone_put_together},
+    {"a lone link in the group beside it, seen in the links", BUILD, lone_in_the_group_beside},
+    {"a lone group with a parent, seen in the links", BUILD, lone_with_a_parent},
+    {"lone groups before the others, seen in the links", BUILD, lone_before_the_others},
+    {"lone groups by falling link, seen in the links", BUILD, lone_by_falling_link},
+    {"kind 1 written, seen in the links", BUILD, other_head_written},
+};
+
+const size_t WRONG_COUNT = sizeof WRONG / sizeof *WRONG;
+
 const struct planted PLANTED[] = {
+    {"lone links in no group", BUILD, lone_in_no_group},
+    {"lone links that share an account in one group", BUILD, lone_put_together},
+    {"a lone link in the group beside it", BUILD, lone_in_the_group_beside},
+    {"a lone group with a parent", BUILD, lone_with_a_parent},
+    {"lone groups before the others", BUILD, lone_before_the_others},
+    {"lone groups by falling link", BUILD, lone_by_falling_link},
+    {"a link put in in no group", PUT_IN, lone_in_no_group},
+    {"links left lone put together", WITHDRAW, lone_put_together},
+    {"kind 1 written", BUILD, other_head_written},
+    {"kind 1 written by a change", WITHDRAW, other_head_written},
+    {"kind 7 read back", READ, other_head_written},
+    {"a links file of kind 7 built", BUILD, kind_7_built},
+    {"an index of kind 1 read", READ, kind_1_taken},
+    {"an index of kind 1 altered", PUT_IN, kind_1_taken},
+    {"an index of kind 1 asked for a strength", STRENGTH, kind_1_taken},
+    {"an index of kind 1 asked for a chain", CHAIN, kind_1_taken},
+    {"k = 2 refused in C", GROUPS_AT, level_2_refused},
+    {"k = 2 refused in F", GROUP_LINKS, level_2_refused},
+    {"k = 2 refused in G", CHAIN, level_2_refused},
+    {"k = 1 taken for 2 in C", GROUPS_AT, level_1_taken},
+    {"k = 1 taken for 2 in F", GROUP_LINKS, level_1_taken},
+    {"k = 1 taken for 2 in G", CHAIN, level_1_taken},
+    {"a lone link with itself joined at 0", JOINED, lone_with_itself_0},
+    {"different links joined at 2", JOINED, different_joined_at_2},
+    {"C at 2 as at 3", GROUPS_AT, three_for_two},
+    {"C at 2 of lone links only", GROUPS_AT, lone_only_at_2},
+    {"lone links in C at 3", GROUPS_AT, two_for_three},
+    {"D without lone links", STRONGEST, lone_left_out},
+    {"lone links beside the strongest in D", STRONGEST, lone_beside_strongest},
+    {"E without lone links", ALL_GROUPS, lone_left_out},
+    {"lone groups numbered first in C", GROUPS_AT, lone_numbered_first},
+    {"lone groups numbered first in E", ALL_GROUPS, lone_numbered_first},
+    {"F at 2 as at 3", GROUP_LINKS, three_for_two},
+    {"F at 2 of any link alone", GROUP_LINKS, alone_at_2},
+    {"a lone link in F at 3", GROUP_LINKS, two_for_three},
+    {"no chain from a link to itself at 2", CHAIN, none_with_itself_at_2},
+    {"a chain from a lone link to itself", CHAIN, one_with_itself_at_2},
     {"a byte past the links read", BUILD, reads_past},
     {"a byte before the links read", BUILD, reads_before},
     {"a byte past the index read", STRENGTH, reads_past},

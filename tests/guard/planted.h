@@ -13,4 +13,8 @@ struct planted {
 extern const struct planted PLANTED[];
 extern const size_t PLANTED_COUNT;
 
+/* Builds that write a wrong index where there are lone links. */
+extern const struct planted WRONG[];
+extern const size_t WRONG_COUNT;
+
 #endif

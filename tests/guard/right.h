@@ -1,5 +1,5 @@
 /* What the calls must give, worked out in C from the rules of documents 01 and 02 and from the bytes of an index, without the library's own answers. Only
- * whether bytes are an index leans on the library: they are if fe_build, given the links that they name, writes just them. */
+ * whether bytes are an index leans on the library: they are if fe_build, given the links that they name, writes just them, and if they are right about lone links. */
 #ifndef RIGHT_H
 #define RIGHT_H
 
@@ -25,7 +25,17 @@ int right_index(const uint8_t *index, size_t length, uint8_t *links, size_t *lin
 /* The refusal of a change of these links but for 12; if there is none, `altered` is a links file of the altered ones, of `*altered_len` bytes. */
 fe_reply right_change(const struct asked *asked, const uint8_t *links, size_t links_len, uint8_t *altered, size_t *altered_len);
 
+/* Whether the index of a sorted links file has of each lone link, found in the links file as one in no triangle, what it must: strength 2, and a group of its own with no
+ * parent, after all others and by link. No other link is in such a group. */
+int right_lone(const uint8_t *sorted, const uint8_t *index);
+
 /* The reply of a question that reads an index, from a window that there is, but for 12; done, `answer` has what C to G write. */
 fe_reply right_answer(const struct asked *asked, uint8_t *answer);
+
+/* Answers with lone links, and those at k = 2 without. */
+enum lone { B_LONE, C_LONE, C_OTHERS, C_BOTH, D_LONE, E_BOTH, F_LONE, F_OTHERS, G_LONE, G_OTHER, LONES };
+
+/* Which of them the answer is; LONES if it is none. */
+enum lone lone_in(const struct asked *asked, uint32_t value, const uint8_t *answer);
 
 #endif

@@ -2,8 +2,8 @@
  *
  * Of every call: the reply is the right one in all four numbers, a refused call changes no lent byte, a done one changes only the first `value` bytes of its
  * buffer and the four bytes of its window's tally, and these to what they must be. Of a build and of a change besides: what it wrote reads back as the sorted links file,
- * and that builds to the same bytes. A reading is right if it gives the links that the bytes name and if a build of these gives the bytes again (right.h); a change is
- * right if it gives what a build of the altered links gives. */
+ * that builds to the same bytes, and each lone link of the file is a group of its own. A reading is right if it gives the links that the bytes name and if a build of
+ * these gives the bytes again (right.h); a change is right if it gives what a build of the altered links gives. */
 #define _POSIX_C_SOURCE 200809L
 #include "turn.h"
 #include "lent.h"
@@ -234,7 +234,17 @@ static const char *there_and_back(const uint8_t *file, size_t file_len, const ui
     if (read.refusal || read.value != file_len || memcmp(links, sorted, file_len)) return "the index reads back as another links file";
     fe_reply built = fe_build(links, read.value, again, sizeof again);
     if (built.refusal || built.value != index_len || memcmp(again, index, index_len)) return "what was read back builds to another index";
-    return NULL;
+    return right_lone(sorted, index) ? NULL : "a lone link is no group of its own";
+}
+
+/* Whether only the head is wrong, and is that of the other file. */
+static int has_other_head(const struct asked *asked) {
+    static uint8_t bytes[LENT_MAX], links[FE_LINKS_MAX];
+    size_t length = asked->read.length, links_len;
+    int build = asked->call == BUILD;
+    if (length == 0 || asked->read.at[0] != (build ? 7 : 1)) return 0;
+    memcpy(bytes, asked->read.at, length), bytes[0] = build ? 1 : 7;
+    return build ? right_links(bytes, length).refusal == 0 : right_index(bytes, length, links, &links_len);
 }
 
 /* The window's tally in a desk record; of a window that there is not, some tally. */
@@ -290,6 +300,8 @@ const char *turn_run(library *call, const struct turn *t, struct met *met) {
     size_t length = answered && has_buffer(t->call) ? wanted.value : 0, room = room_of(t, length);
     if (answered && (room < length || (question && t->desk_len < FE_DESK))) wanted = (fe_reply){12, 0, 0, 0}, answered = 0;
     met->reordered = answered && has_accounts(t->call) && is_reordered(result, length);
+    met->lone = answered && question ? lone_in(&asked, wanted.value, result) : LONES;
+    met->other_head = wanted.refusal == (t->call == BUILD ? 1 : 7) && has_other_head(&asked);
 
     /* what is lent */
     const uint8_t *before = noise + t->given;

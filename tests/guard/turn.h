@@ -42,6 +42,8 @@ struct met {
     fe_reply reply;
     size_t length; /* of what the call read */
     int reordered; /* an answer of groups in another order than the index's */
+    enum lone lone;
+    int other_head; /* refused by its head alone: an index under kind 1, a links file under kind 7 */
     uint32_t made; /* calls of the library, for the result and for what it must be */
 };
 
