@@ -1,4 +1,4 @@
-/* Builds card A of document 01 as a C host would, compares the index with the 84 bytes that the document prints, and reads it back. */
+/* Builds card A of document 01 as a C host would, compares the index with the document's bytes, 90 since request 7 of document 02, and reads it back. */
 #include "footballelm.h"
 
 #include <stdio.h>
@@ -10,19 +10,20 @@ static const uint8_t LINKS[36] = {
     5,
 };
 
-static const uint8_t INDEX[84] = {
-    1, 0, 5, 0, 6,
+static const uint8_t INDEX[90] = {
+    7, 0, 5, 0, 6,
     2, 0, 0, 0, 1, 3, 0, 0,
     2, 0, 0, 0, 2, 3, 0, 0,
     2, 0, 1, 0, 2, 3, 0, 0,
     2, 0, 1, 0, 3, 3, 0, 0,
     2, 0, 2, 0, 3, 3, 0, 0,
-    2, 0, 3, 0, 4, 2, 0xFF, 0xFF,
+    2, 0, 3, 0, 4, 2, 0, 1,
     3, 0, 0, 0, 1, 3,
     3, 0, 0, 0, 2, 3,
     3, 0, 2, 0, 3, 3,
     3, 0, 2, 0, 4, 3,
     4, 0xFF, 0xFF, 3, 0, 0,
+    4, 0xFF, 0xFF, 2, 0, 5,
     5,
 };
 
@@ -48,7 +49,7 @@ static int all(const uint8_t *bytes, size_t from, size_t to, uint8_t value) {
 }
 
 int main(void) {
-    static uint8_t index[FE_INDEX_MAX], links[FE_LINKS_MAX], altered[sizeof INDEX];
+    static uint8_t index[FE_INDEX_MAX], links[FE_LINKS_MAX], altered[sizeof INDEX], other[sizeof LINKS];
 
     memset(index, 0xA5, sizeof index);
     check("reply", is(fe_build(LINKS, sizeof LINKS, index, sizeof index), 0, sizeof INDEX));
@@ -62,6 +63,9 @@ int main(void) {
     memset(index, 0xA5, sizeof index);
     check("short buffer is 12", is(fe_build(LINKS, sizeof LINKS, index, sizeof INDEX - 1), 12, 0));
     check("no end is 1 at 35", is(fe_build(LINKS, sizeof LINKS - 1, index, sizeof index), 1, 35));
+    memcpy(other, LINKS, sizeof LINKS), other[0] = 7;
+    check("links that begin as an index does are 1 at 0", is(fe_build(other, sizeof other, index, sizeof index), 1, 0));
+    check("an index for links is 1 at 0", is(fe_build(INDEX, sizeof INDEX, index, sizeof index), 1, 0));
     check("bytes after a refusal", all(index, 0, sizeof index, 0xA5));
 
     memset(links, 0xA5, sizeof links);
@@ -72,6 +76,11 @@ int main(void) {
     memcpy(altered, INDEX, sizeof INDEX);
     altered[5 + 6 * 8 + 2 * 6 + 2] = 1; /* the third join: 1 and 3 for 2 and 3 */
     check("an altered join is 7", is(fe_read(altered, sizeof altered, links, sizeof links), 7, 0));
+    memcpy(altered, INDEX, sizeof INDEX), altered[0] = 1;
+    check("an index that begins as links do is 7", is(fe_read(altered, sizeof altered, links, sizeof links), 7, 0));
+    memcpy(altered, INDEX, sizeof INDEX), memset(altered + 5 + 5 * 8 + 6, 0xFF, 2);
+    check("a link in no group is 7", is(fe_read(altered, sizeof altered, links, sizeof links), 7, 0));
+    check("links for an index are 7", is(fe_read(LINKS, sizeof LINKS, links, sizeof links), 7, 0));
     check("bytes after a refused reading", all(links, 0, sizeof links, 0xA5));
 
     printf("%d passed, %d failed\n", passed, failed);

@@ -159,7 +159,7 @@ static fe_reply done_for_12(const struct asked *a) {
 }
 
 static fe_reply none_left_refused(const struct asked *a) {
-    return a->call == WITHDRAW && a->read.length == 6 + 8 ? (fe_reply){11, 0, 0, 0} : make_call(a);
+    return a->call == WITHDRAW && a->read.length == 6 + 8 + 6 ? (fe_reply){11, 0, 0, 0} : make_call(a);
 }
 
 static fe_reply exact_is_12(const struct asked *a) {
