@@ -29,6 +29,8 @@ CARDS = {
     "bow-tie": (5, all_pairs(0, 1, 2) + all_pairs(2, 3, 4)),
     # five accounts all linked; three of them all linked with 5; one more triangle on 4-5: a group in a group in a group
     "nested": (7, all_pairs(0, 1, 2, 3, 4) + [(2, 5), (3, 5), (4, 5), (4, 6), (5, 6)]),
+    # no triangle: each link is a group, though two share account 1
+    "pairs": (5, [(3, 4), (1, 2), (0, 1)]),
     # three accounts and no link
     "no-links": (3, []),
     # refused: the second link names 0-1 again, the other way round
