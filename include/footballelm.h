@@ -32,9 +32,9 @@ typedef struct {
 #define FE_DESK 128
 
 /* Bytes of stack that are enough for any call, below the caller's frame. No function calls itself, directly or through others, and each frame has a fixed size, so the
- * deepest row of calls bounds every call, whatever is lent: 147,944 bytes of fe_build, 147,992 of fe_read, 148,040 of a change, 153,096 of a question. Summed from
- * the object code (tests/frames) and measured (tests/c/stack.c), not proved. The other 10,744 bytes are for the C library's memset and memcpy: a first call that had to
- * bind memset took 3,136 of them. A thread needs all this and what its own functions take. */
+ * deepest row of calls bounds every call, whatever is lent: 147,928 bytes of fe_build, 147,976 of fe_read, 148,024 of a change, 153,080 of a question. Summed from
+ * the object code (tests/frames) and measured (tests/c/stack.c), not proved. The other 10,760 bytes are for the C library's memset and memcpy: a first call that had to
+ * bind memset took 3,088 of them. A thread needs all this and what its own functions take. */
 #define FE_STACK_MAX 163840
 
 /* Every call:
@@ -44,7 +44,7 @@ typedef struct {
  *   - The call allocates nothing, keeps nothing between calls and has no global data, so several threads may call at once with slices of their own.
  *   - A refused call leaves every lent byte as it was. */
 
-/* Builds the index of a links file.
+/* Builds the index of a links file. A links file begins with byte 1, an index with byte 7.
  *
  *   links, links_len  the links file; it is only read. Any bytes may be lent: what is wrong with them is refused.
  *   index, index_len  where the index goes; what it held before does not matter.
@@ -78,7 +78,8 @@ fe_reply fe_build(const uint8_t *links, size_t links_len, uint8_t *index, size_t
  * it gives the same index again.
  *
  * Refused, with place 0:
- *     7   the bytes are not the index of any links file: every strength, join and group is checked, so this costs about one build
+ *     7   the bytes are not the index of any links file: every strength, join and group is checked, so this costs about one build. What begins with byte 1, as an index
+ *         did before lone links were groups, is none: build the index again
  *     12  the links file is longer than links_len; a buffer of just its length suffices */
 fe_reply fe_read(const uint8_t *index, size_t index_len, uint8_t *links, size_t links_len);
 
@@ -114,11 +115,12 @@ fe_reply fe_withdraw(const uint8_t *index, size_t index_len, uint32_t a, uint32_
  * The words:
  *   link      a pair of accounts that the links file names; a call takes them in either order. Links are numbered from 0, by lower, then higher account.
  *   strength  of a link, 2 to 64: the largest k such that some set of links holds it and each link of the set is in at least k - 2 triangles of the set
- *             (trussness). A link in no triangle has 2.
- *   group     at k, from 3 to 64: a link of strength k or more with every link that it reaches over triangles, each sharing a link with the one before, whose
- *             links all have strength k or more (a triangle-connected k-truss community). The same set is stored once, and its strength is its largest k.
- *             Stored groups are numbered from 0, by falling strength, then by least link. A group holds an account that is an end of one of its links; the
- *             links of a group that lies in it are its links too.
+ *             (trussness). A link in no triangle has 2: it is a lone link.
+ *   group     at k, from 2 to 64: a link of strength k or more with every link that it reaches over triangles, each sharing a link with the one before, whose
+ *             links all have strength k or more (a triangle-connected k-truss community). So each lone link is a group by itself, at 2, and the other groups
+ *             at 2 are those at 3. The same set is stored once, and its strength is its largest k. Stored groups are numbered from 0, by falling strength,
+ *             then by least link, the lone links last. A group holds an account that is an end of one of its links; the links of a group that lies in it are
+ *             its links too.
  *
  * What is given:
  *   index, index_len        the index; it is only read. Any bytes may be lent: every question checks them all, which costs about one build.
@@ -139,7 +141,7 @@ fe_reply fe_withdraw(const uint8_t *index, size_t index_len, uint32_t a, uint32_
  *     7   the bytes are not the index of any links file
  *     8   no account named, over 16, or an odd accounts_len
  *     9   an account not below the number of accounts
- *     10  k below 3 or above 64
+ *     10  k below 2 or above 64
  *     11  a pair is no link
  *     12  the answer is longer than answer_len; a buffer of just its length suffices, which is two bytes for a count of 0. Or desk_len is below FE_DESK,
  *         whatever the window */
@@ -148,12 +150,12 @@ fe_reply fe_withdraw(const uint8_t *index, size_t index_len, uint32_t a, uint32_
  * strength 2 there are none; at s from 3 up there are s - 2 or more. Refused by 13, 7, 9, 11, 12, in this order. */
 fe_reply fe_strength(const uint8_t *index, size_t index_len, uint32_t a, uint32_t b, uint32_t window, uint8_t *desk, size_t desk_len);
 
-/* B. The largest k at which the links a-b and c-d are in one group, 0 if there is none; a link with itself gives its strength, or 0 at strength 2.
+/* B. The largest k at which the links a-b and c-d are in one group, 0 if there is none; a link with itself gives its strength. Only a lone link with itself gives 2.
  * Refused by 13, 7, 9 (any of the four accounts), 11 (either pair), 12, in this order. */
 fe_reply fe_joined(const uint8_t *index, size_t index_len, uint32_t a, uint32_t b, uint32_t c, uint32_t d, uint32_t window, uint8_t *desk, size_t desk_len);
 
-/* C. The numbers of the groups at k that hold all the accounts; their strength may be above k, and the stronger come first. Refused by 13, 7, 8, 9, 10, 12, in this
- * order. */
+/* C. The numbers of the groups at k that hold all the accounts; their strength may be above k, and the stronger come first, at 2 the lone links last. Refused by 13, 7,
+ * 8, 9, 10, 12, in this order. */
 fe_reply fe_groups_at(const uint8_t *index, size_t index_len, const uint8_t *accounts, size_t accounts_len, uint32_t k, uint8_t *answer, size_t answer_len,
                       uint32_t window, uint8_t *desk, size_t desk_len);
 
@@ -166,14 +168,16 @@ fe_reply fe_strongest_groups(const uint8_t *index, size_t index_len, const uint8
 fe_reply fe_all_groups(const uint8_t *index, size_t index_len, const uint8_t *accounts, size_t accounts_len, uint8_t *answer, size_t answer_len,
                        uint32_t window, uint8_t *desk, size_t desk_len);
 
-/* F. The numbers of the links of the group at k with the link a-b, rising; none if its strength is below k. Refused by 13, 7, 9, 10, 11, 12, in this order. */
+/* F. The numbers of the links of the group at k with the link a-b, rising; none if its strength is below k; at 2 a lone link alone. Refused by 13, 7, 9, 10, 11, 12, in
+ * this order. */
 fe_reply fe_group_links(const uint8_t *index, size_t index_len, uint32_t a, uint32_t b, uint32_t k, uint8_t *answer, size_t answer_len,
                         uint32_t window, uint8_t *desk, size_t desk_len);
 
 /* G. A shortest chain between the links a-b and c-d at k: the fewest triangles, all of links of strength k or more, of which the first has a-b, the last has
  * c-d, and each shares a link with the next. It shows how two parties of one group hang together. The triangles stand in the chain's order, the accounts of each
  * rising. Among equally short chains it is the one that comes first by those accounts, triangle by triangle from a-b; asked from c-d it may be another. A link
- * with itself gives one triangle if its strength is k or more. The count is 0 if no group at k has both links, and only then.
+ * with itself gives one triangle if its strength is k or more, unless it is lone. The count is 0 if no group at k has both links, and for a lone link with itself at 2,
+ * and only then.
  * Refused by 13, 7, 9 (any of the four accounts), 10, 11 (either pair), 12, in this order. */
 fe_reply fe_chain(const uint8_t *index, size_t index_len, uint32_t a, uint32_t b, uint32_t c, uint32_t d, uint32_t k, uint8_t *answer, size_t answer_len,
                   uint32_t window, uint8_t *desk, size_t desk_len);

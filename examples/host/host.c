@@ -1,5 +1,6 @@
 /* A host of the terminal: builds the index of card B of document 01, asks every question on it from two windows, meets every refusal, shows which window was
- * answered how often, plays an afternoon in which links come and go, and reads to a customer the larger of two parties. After `rt staticlib terminal`:
+ * answered how often, plays an afternoon in which links come and go, reads to a customer the larger of two parties, and finds two people who are a party by themselves.
+ * After `rt staticlib terminal`:
  *
  *     gcc -std=c11 -O2 -Wall -Wextra -Werror -pedantic -Iinclude examples/host/host.c target/staticlib/libterminal.a -o target/host && target/host
  *
@@ -30,7 +31,7 @@ static const uint8_t PARTIES[] = {
 enum { PAYOUTS = 3, DISPUTES = 17 };
 
 /* Accounts as questions name them, two bytes each. */
-static const uint8_t TWO[] = {0, 2}, THREE[] = {0, 3}, TWO_AND_FOUR[] = {0, 2, 0, 4}, SEVEN[] = {0, 7};
+static const uint8_t ZERO[] = {0, 0}, TWO[] = {0, 2}, THREE[] = {0, 3}, TWO_AND_FOUR[] = {0, 2, 0, 4}, SEVEN[] = {0, 7};
 
 /* Two buffers for the index: a change goes from the one in use into the other. */
 static uint8_t buffers[2][FE_INDEX_MAX], *index_bytes = buffers[0], *second = buffers[1];
@@ -49,7 +50,7 @@ static const char *const WHY[15][2] = {
     {"holder of the index", "the bytes are not the index of any links file"},
     {"window", "no account is named, over 16 are, or the byte length is odd"},
     {"window", "an account is not below the number of accounts"},
-    {"window", "k is below 3 or above 64"},
+    {"window", "k is below 2 or above 64"},
     {"window", "a pair is no link"},
     {"host", "the result is longer than the buffer lent for it, or the desk record is below 128 bytes"},
     {"host", "the window is above 31"},
@@ -184,6 +185,18 @@ static void larger_party(void) {
     list("The first of them is read", r, 1);
 }
 
+/* 0 and 5 have no one in common, so their link is in no triangle: at 3 it is in no group, at 2 it is one by itself, beside the party that account 0 is in. */
+static void two_people(void) {
+    change("A ticket is cashed, 0-5 put in", fe_put_in(index_bytes, length, 0, 5, second, FE_INDEX_MAX));
+    strength("0-5", fe_strength(index_bytes, length, 0, 5, PAYOUTS, desk, sizeof desk));
+    list("Groups at 3 with account 0", fe_groups_at(index_bytes, length, ZERO, sizeof ZERO, 3, answer, sizeof answer, PAYOUTS, desk, sizeof desk), 0);
+    list("Groups at 2 with account 0", fe_groups_at(index_bytes, length, ZERO, sizeof ZERO, 2, answer, sizeof answer, PAYOUTS, desk, sizeof desk), 0);
+    list("Links of the group at 2 with 0-5", fe_group_links(index_bytes, length, 0, 5, 2, answer, sizeof answer, PAYOUTS, desk, sizeof desk), 1);
+    number("Greatest k with 0-5 and 5-0 in one group", fe_joined(index_bytes, length, 0, 5, 5, 0, DISPUTES, desk, sizeof desk));
+    chain("0-5 and 0-1", 2, fe_chain(index_bytes, length, 0, 5, 0, 1, 2, answer, sizeof answer, DISPUTES, desk, sizeof desk));
+    tallies();
+}
+
 int main(void) {
     fe_reply r = fe_build(CARD, sizeof CARD, index_bytes, FE_INDEX_MAX);
     if (r.refusal) {
@@ -235,5 +248,6 @@ int main(void) {
 
     afternoon();
     larger_party();
+    two_people();
     return 0;
 }
