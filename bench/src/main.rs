@@ -101,9 +101,11 @@ fn far_apart(index: &Index, k: u16) -> (u32, u16, u16) {
 fn chains(index: &Index) -> [Question; 2] {
     let strengths = index.links.iter().map(|link| link.strength);
     let greatest = strengths.max().expect("a card with a link");
-    let middle = (greatest / 2 + 1).max(3);
-    let longest = (3..=greatest).max_by_key(|&k| (far_apart(index, k).0, Reverse(k)));
-    [longest.expect("a card with a triangle"), middle].map(|k| {
+    // At 2 chains are those at 3; where no link is stronger there is none.
+    let middle = (greatest / 2 + 1).max(3).min(greatest);
+    let levels = 3.min(greatest)..=greatest;
+    let longest = levels.max_by_key(|&k| (far_apart(index, k).0, Reverse(k)));
+    [longest.expect("a level"), middle].map(|k| {
         let (_, first, second) = far_apart(index, k);
         let ends = |link: u16| {
             let link = &index.links[usize::from(link)];
@@ -115,7 +117,7 @@ fn chains(index: &Index) -> [Question; 2] {
 
 /// By column of the table, questions with much to do; of several in one column the worst is shown. The second link of A is one with the most links at its ends. The
 /// accounts and the link of F are of the group with the most links, the accounts those with the most links in all; C, D and E also name the account that is in the most
-/// groups, again and again.
+/// groups, and the one in the most groups at the least k, again and again. C and F are at the least k.
 fn questions(index: &Index) -> [Vec<Question>; COLUMNS] {
     let held_by = |link: &StrongLink| index.climb(link.group).collect::<BTreeSet<_>>();
     let ends = |link: &StrongLink| (link.lower.into(), link.higher.into());
@@ -150,32 +152,43 @@ fn questions(index: &Index) -> [Vec<Question>; COLUMNS] {
     let mut accounts: Vec<u16> = accounts.into_iter().collect();
     accounts.sort_by_key(|&account| Reverse(links_at[usize::from(account)]));
 
-    let mut groups_of = vec![BTreeSet::new(); MAX_ACCOUNTS.into()];
-    for link in links {
-        for account in [link.lower, link.higher] {
-            groups_of[usize::from(account)].extend(held_by(link));
+    let in_most = |of: &dyn Fn(&StrongLink) -> BTreeSet<u16>| -> u16 {
+        let mut groups_of = vec![BTreeSet::new(); MAX_ACCOUNTS.into()];
+        for link in links {
+            for account in [link.lower, link.higher] {
+                groups_of[usize::from(account)].extend(of(link));
+            }
         }
-    }
-    let in_most = (0..).zip(&groups_of);
-    let in_most = in_most.max_by_key(|(_, groups)| groups.len());
-    let (in_most, _) = in_most.expect("an account");
+        let most = (0..).zip(&groups_of).max_by_key(|(_, of)| of.len());
+        most.expect("an account").0
+    };
+    // A group at the least k has no parent, so it is the last above a link.
+    let at_least = |link: &StrongLink| held_by(link).into_iter().next_back().into_iter().collect();
 
     let sixteen = |accounts: &[u16]| -> Vec<u8> {
         let named = accounts.iter().cycle().take(MAX_NAMED);
         named.flat_map(|account| account.to_be_bytes()).collect()
     };
-    let named = [sixteen(&accounts), sixteen(&[in_most])];
-    let of_both = |question: fn(Vec<u8>) -> Question| named.clone().map(question).to_vec();
+    let mut named = vec![
+        sixteen(&accounts),
+        sixteen(&[in_most(&held_by)]),
+        sixteen(&[in_most(&at_least)]),
+    ];
+    named.dedup();
+    let of_each = |question: &dyn Fn(Vec<u8>) -> Question| -> Vec<Question> {
+        named.iter().cloned().map(question).collect()
+    };
+    let least = RULES.min_k().into();
 
     let [longest, middle] = chains(index);
     [
         vec![Question::A(ends(last))],
         vec![Question::A(ends(busiest))],
         vec![Question::B(ends(deepest), ends(farthest))],
-        of_both(|named| Question::C(named, 3)),
-        of_both(Question::D),
-        of_both(Question::E),
-        vec![Question::F(ends(of_largest), 3)],
+        of_each(&|named| Question::C(named, least)),
+        of_each(&Question::D),
+        of_each(&Question::E),
+        vec![Question::F(ends(of_largest), least)],
         vec![longest],
         vec![middle],
     ]
