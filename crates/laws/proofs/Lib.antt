@@ -61,3 +61,7 @@ pub mod Run
 pub mod Windows
 -- a link put in or withdrawn, and any sequence of changes
 pub mod Changes
+-- a limit tried on a day's bets
+pub mod Bets
+-- what trying a limit gives
+pub mod Trial

@@ -34,7 +34,7 @@ abbrev pub withRoom : {A : Type 0} → List ℕ → List ℕ → A → Checked A
 withRoom result buffer x = refuseIf (ltb (length buffer) (length result)) 12 0 (passed x)
 
 -- "Bytes of a lent buffer after any result, an index or links file too, stay."
-abbrev pub overwrite : List ℕ → List ℕ → List ℕ
+abbrev pub overwrite : {A : Type 0} → List A → List A → List A
 overwrite result buffer = result ++ drop (length result) buffer
 
 -- ---- building and reading back

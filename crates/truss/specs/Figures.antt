@@ -2,7 +2,7 @@
 -- of links, the greatest strength or the limit of index bytes.
 use mathlib.Core.Path.{_≡_, refl}
 use mathlib.Core.List.{[], _∷_}
-use Rattle.truss.specs.Limits.{maxAccounts, maxLinks, minStrength, maxStrength, minLevel, maxLevel, maxNamed, noGroup, maxIndexBytes, maxChainBytes, maxTally, tallyLength, windows, deskLength}
+use Rattle.truss.specs.Limits.{maxAccounts, maxLinks, minStrength, maxStrength, minLevel, maxLevel, maxNamed, noGroup, maxIndexBytes, maxChainBytes, maxTally, tallyLength, windows, deskLength, maxRecords, minStake, maxStake, maxLimit, recordLength, marginLength}
 use Rattle.truss.specs.Refusal.{passed, refuse}
 use Rattle.truss.specs.LinksFile.{accepted, readLinks}
 use Rattle.truss.specs.Question.{answer, ask-groups-at, ask-links, ask-chain, numbers, chain}
@@ -27,6 +27,13 @@ pub record Figures : Type 0 where
   -- "The record now holds 32 tallies"; as bytes, "four to a tally"
   windows-are : windows ≡ 32
   desk-bytes : deskLength ≡ 128
+  -- "at most 4,096"; "stake from 1 to 1,000,000 pence"; "0 to 1,000,000,000 pence"; from C nine bytes to a record, eight to a margin (cases at either side: BetsCases)
+  records-are : maxRecords ≡ 4096
+  least-stake : minStake ≡ 1
+  greatest-stake : maxStake ≡ 1_000_000
+  greatest-limit : maxLimit ≡ 1_000_000_000
+  record-bytes : recordLength ≡ 9
+  margin-bytes : marginLength ≡ 8
   -- n = 1,024 is taken (1,025: Cases)
   most-accounts : readLinks (headOnly 1024) ≡ accepted 1024 []
   -- "m = 2,048 is taken, 2,049 is 3": a head alone, so the first link is missed
@@ -63,6 +70,12 @@ figures = record {
   tally-bytes = refl;
   windows-are = refl;
   desk-bytes = refl;
+  records-are = refl;
+  least-stake = refl;
+  greatest-stake = refl;
+  greatest-limit = refl;
+  record-bytes = refl;
+  margin-bytes = refl;
   most-accounts = refl;
   most-links = refl;
   too-many-links = refl;

@@ -21,6 +21,7 @@ pub mod Question
 pub mod Call
 pub mod Change
 pub mod Listing
+pub mod Bets
 -- what a refused call leaves; what question G answers; the window and the record as bytes; what question A answers; what C, D and E list; tallies over a run of questions
 pub mod Kept
 pub mod Ways
@@ -35,6 +36,8 @@ pub mod Demand3
 pub mod Lone
 -- a link put in or withdrawn, and any sequence of changes
 pub mod Changes
+-- a limit tried on a day's bets
+pub mod Trial
 -- the worked cases; the statements spelled out
 pub mod Cards
 pub mod Cases
@@ -45,5 +48,6 @@ pub mod LoneCases
 pub mod WholeCalls
 pub mod DeskCases
 pub mod ChangeCases
+pub mod BetsCases
 pub mod Figures
 pub mod Spelled

@@ -54,3 +54,23 @@ windows = 32
 -- the record as bytes
 abbrev pub deskLength : ℕ
 deskLength = windows * tallyLength
+
+-- "The day's bets lie in one row of records, at most 4,096"; "stake from 1 to 1,000,000 pence"; a limit "(0 to 1,000,000,000 pence)" (document 02, request 8)
+abbrev pub maxRecords : ℕ
+maxRecords = 4096
+
+abbrev pub minStake : ℕ
+minStake = 1
+
+abbrev pub maxStake : ℕ
+maxStake = 1_000_000
+
+abbrev pub maxLimit : ℕ
+maxLimit = 1_000_000_000
+
+-- the bytes of a record and of a margin, from C
+abbrev pub recordLength : ℕ
+recordLength = 9
+
+abbrev pub marginLength : ℕ
+marginLength = 8

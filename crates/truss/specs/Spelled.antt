@@ -1,30 +1,32 @@
 -- Demand 3 in plain words of the definitions: what it says of any files, links and levels, whatever memory was lent; what question A answers (Firmness), and how an answer stands in reply and
--- buffer; what C, D and E list (Order); what question G answers (Ways); lone links (Lone); what the window and the record as bytes have to do with a question (Windows); tallies over a run (Run); and links that come and go (Changes).
+-- buffer; what C, D and E list (Order); what question G answers (Ways); lone links (Lone); what the window and the record as bytes have to do with a question (Windows); tallies over a run (Run); links that come and go (Changes); and a limit tried on a day's bets (Trial).
 -- A hypothesis more in one of them, or a conclusion less, fails here; no law fails at it, since the law that is left is weaker and true.
 use mathlib.Core.Path.{_≡_, refl, sym, ap, _∙_, subst}
 use mathlib.Core.Logic.{_⊎_, inl, inr, _↔_, _≢_}
 use mathlib.Core.Bool.{Bool, true, false, cond, not, _&&_, _||_}
 use mathlib.Core.List.{List, [], _∷_, _++_, map}
 use mathlib.Core.List.{List·Memᴰ as In}
-use Prim.Native.Nat.{ℕ, suc, _+_, _*_, _-_, _≤_, _<_, min}
+use Prim.Native.Nat.{ℕ, suc, _+_, _*_, _-_, _/_, _≤_, _<_, min}
 use native.Mathlib.Nat.{min-comm, max-comm}
 use native.Mathlib.Omega.{arith}
 use lib.Dec.{eqb, ltb}
 use lib.ListN.{length, getD, take, drop, set}
+use lib.IntN.{ℤ, pos, _-ℤ_}
+use lib.Signed.{_≤ℤ_, mag}
 use Rattle.truss.specs.Limits.{maxLinks, minLevel, maxLevel, maxNamed, maxIndexBytes, maxChainBytes}
-use Rattle.truss.specs.Lists.{any, concatMap, count, range, sameList}
+use Rattle.truss.specs.Lists.{filter, any, concatMap, count, range, sameList}
 use Rattle.truss.specs.Graph.{Link, LinkSet, Pair, Graph, Triangle, IsTriangle, Has, link, linkAt, sameLink, linkOf, graphOf, member}
 use Rattle.truss.specs.Strength.{IsStrength}
 use Rattle.truss.specs.Chain.{AtLeast, StrongTriangle, Joined, InGroup}
 use Rattle.truss.specs.Shortest.{IsShortestFirst, triangleBefore, shortestChain}
 use Rattle.truss.specs.Support.{EachOnce, nothing, and-one}
-use Rattle.truss.specs.Group.{Group, leastLink, groups, parent}
+use Rattle.truss.specs.Group.{Group, leastLink, groupAt, groups, parent}
 use Rattle.truss.specs.Refusal.{Checked, Refusal, passed, refused, refuse, refuseIf, andThen}
 use Rattle.truss.specs.Record.{field}
 use Rattle.truss.specs.LinksFile.{Links, accepted, graphOfLinks, readLinks, writeLinks, pairsOf, readBack}
 use Rattle.truss.specs.Index.{Index, linkBytes, joinBytes, groupBytes, encode, decode, indexBytes}
 use Rattle.truss.specs.IndexFile.{linksFileIn, ifIndexIs, readIndex}
-use Rattle.truss.specs.Question.{Question, Answer, two-numbers, number, numbers, chain, ask-strength, ask-joined, ask-groups-at, ask-strongest, ask-all, ask-links, ask-chain, accountsIn, outside, answer, joinedUpTo, groupLinks, emptyGroup, holds, groupsHolding, strongestHolding, allHolding}
+use Rattle.truss.specs.Question.{Question, Answer, two-numbers, number, numbers, chain, ask-strength, ask-joined, ask-groups-at, ask-strongest, ask-all, ask-links, ask-chain, accountsIn, outside, answer, joinedUpTo, groupLinks, emptyGroup, holds, isGroupAt, groupsHolding, strongestHolding, allHolding}
 use Rattle.truss.specs.Call.{Written, Asked, answerBytes, answerValue, answerSecond, answerReply, settle, checkedAnswer, build, done, ask, askBytes, tallyAt}
 use Rattle.truss.specs.Stored.{ForestConnects, TreeHolds, rowAt, groupRowAt, Leads}
 use Rattle.truss.specs.Demand3.{Builds, AllOrNone, Demand3, OnlyShortMemory}
@@ -39,6 +41,8 @@ use Rattle.truss.specs.Windows.{refusedBy, recordOf, WindowRule, RecordR
 use Rattle.truss.specs.Run.{Seen, Run, ownAnswered, Asks, RunTallies, AsksBytes, RunRecord}
 use Rattle.truss.specs.Change.{Change, put-in, withdraw, change}
 use Rattle.truss.specs.Changes.{Tells, moved, Faulty, put-outside, put-equal, put-again, put-full, withdraw-outside, withdraw-none, ChangeRule, Changes, none, one, Changed, ChangesTell}
+use Rattle.truss.specs.Bets.{DayRecord, bet, new-limit, limitAfter, stakesTaken, marginOf, groupsOf, Tried, tryLimit, recordsIn, marginAt, tryLimitBytes}
+use Rattle.truss.specs.Trial.{ByteIs, taken as is-taken, not-taken, limited, Sound, sound-bet, sound-limit, RecordFault, outside as bet-outside, stake, limit, DayFault, level, many, opened, recorded, NoFault, Closes, TrialRule}
 
 -- a question writes this list: its count and its numbers, two bytes each, if they fit; else 12
 abbrev ListsAll : List ℕ → Question → List ℕ → Type 0
@@ -129,6 +133,93 @@ rule-lists r bytes G q is js h m same o =
     let (js′, L, W) = r .gives bytes G q is h m in
     let e = r .only G is js′ js L same o in
     subst (ListsAll bytes q) e (λ buffer w tallies l. (W .fits buffer w tallies l, W .short buffer w tallies l))
+
+-- ---- a limit tried on a day's bets
+
+-- a trial is refused by a number, and what is lent stays
+abbrev TrialRefused : List ℕ → ℕ → ℕ → List DayRecord → ℕ → Type 0
+TrialRefused bytes k opening rs r =
+    (taken : List ℕ) (margins : List ℤ) → tryLimit bytes k opening rs taken margins ≡ record { reply = refusedBy r; taken = taken; margins = margins }
+
+-- level, number of records and opening limit are in range
+abbrev Opens : ℕ → ℕ → List DayRecord → Type 0
+Opens k opening rs = (2 ≤ k) × (k ≤ 64) × (length rs ≤ 4096) × (opening ≤ 1_000_000_000)
+
+abbrev InRange : Graph → DayRecord → Type 0
+InRange G (bet a s) = (a < G .n) × (1 ≤ s) × (s ≤ 1_000_000)
+InRange G (new-limit x) = x ≤ 1_000_000_000
+
+abbrev AllInRange : Graph → List DayRecord → ℕ → Type 0
+AllInRange G rs i = (j : ℕ) → j < i → InRange G (getD rs j (new-limit 0))
+
+range-sound : (G : Graph) (r : DayRecord) → InRange G r → Sound G r
+range-sound G (bet a s) (l, low, high) = sound-bet l low high
+range-sound G (new-limit x) l = sound-limit l
+
+sound-range : (G : Graph) (r : DayRecord) → Sound G r → InRange G r
+sound-range G (bet a s) (sound-bet l low high) = (l, low, high)
+sound-range G (new-limit x) (sound-limit l) = l
+
+no-fault : (G : Graph) (k opening : ℕ) (rs : List DayRecord) → Opens k opening rs → AllInRange G rs (length rs) → NoFault G k opening rs
+no-fault G k opening rs (low, high, few, o) all = record { is-level = (low, high); few = few; in-range = o; sound = λ j l. range-sound G (getD rs j (new-limit 0)) (all j l) }
+
+-- the first record that is not in range
+fault-at : TrialRule → (bytes : List ℕ) (G : Graph) (k opening : ℕ) (rs : List DayRecord) (i r : ℕ) → readIndex bytes ≡ passed G → Opens k opening rs → i < length rs → AllInRange G rs i
+    → RecordFault G (getD rs i (new-limit 0)) r → TrialRefused bytes k opening rs r
+fault-at t bytes G k opening rs i r h (low, high, few, o) l before w taken margins =
+    t .faulty bytes G k opening rs taken margins r h (recorded (low, high) few o i l (λ j u. range-sound G (getD rs j (new-limit 0)) (before j u)) w)
+
+out-of-range : {G : Graph} {r : DayRecord} {a s x : ℕ} → ((r ≡ bet a s) × (a < G .n) × ((s < 1) ⊎ (1_000_000 < s))) ⊎ ((r ≡ new-limit x) × (1_000_000_000 < x)) → RecordFault G r 15
+out-of-range (inl (q, l, w)) = rw q (stake l w)
+out-of-range (inr (q, l)) = rw q (limit l)
+
+fault-or-range : (G : Graph) (k opening : ℕ) (rs : List DayRecord) → ((r : ℕ) × DayFault G k opening rs r) ⊎ NoFault G k opening rs
+    → ((r : ℕ) × DayFault G k opening rs r) ⊎ (Opens k opening rs × AllInRange G rs (length rs))
+fault-or-range G k opening rs (inl w) = inl w
+fault-or-range G k opening rs (inr n) = inr ((n .is-level .0, n .is-level .1, n .few, n .in-range), λ j l. sound-range G (getD rs j (new-limit 0)) (n .sound j l))
+
+-- the limit less the stakes taken from accounts that pass
+abbrev Left : (ℕ → Bool) → ℕ → List DayRecord → List ℕ → ℤ
+Left p opening rs bytes = pos (limitAfter opening rs) -ℤ pos (stakesTaken p rs bytes)
+
+abbrev Room : Graph → ℕ → ℕ → List DayRecord → List ℕ → ℕ → ℕ → Type 0
+Room G k opening before bytes a s =
+    ((g : Group) → In g (groupsOf G k) → holds G g a ≡ true → pos s ≤ℤ Left (holds G g) opening before bytes)
+    × (((g : Group) → In g (groupsOf G k) → holds G g a ≡ false) → pos s ≤ℤ Left (eqb a) opening before bytes)
+
+-- what is said of record i's byte: a bet's is 1 if there is room after the records before it, else 0; a new limit's is 1
+abbrev ByteSaid : Graph → ℕ → ℕ → List DayRecord → List ℕ → ℕ → DayRecord → Type 0
+ByteSaid G k opening rs bytes i (bet a s) =
+    (Room G k opening (take i rs) (take i bytes) a s × (getD bytes i 0 ≡ 1)) ⊎ ((¬ Room G k opening (take i rs) (take i bytes) a s) × (getD bytes i 0 ≡ 0))
+ByteSaid G k opening rs bytes i (new-limit x) = getD bytes i 0 ≡ 1
+
+byte-said : (G : Graph) (k opening : ℕ) (rs : List DayRecord) (bytes : List ℕ) (i : ℕ) → ByteIs G k opening rs bytes i → ByteSaid G k opening rs bytes i (getD rs i (new-limit 0))
+unfolding marginOf
+byte-said G k opening rs bytes i (is-taken q r b) = rw q (inl ((r .every-group, r .by-itself), b))
+byte-said G k opening rs bytes i (not-taken q n b) = rw q (inr ((λ (e, a). n (record { every-group = e; by-itself = a })), b))
+byte-said G k opening rs bytes i (limited q b) = rw q b
+
+-- a day that is done (`past` is what is read past the end of the second buffer): how many margins are written, each byte, each margin, and that all else stays
+abbrev Done : {A : Type 0} → Graph → ℕ → ℕ → List DayRecord → (List A → ℕ → ℤ) → ℕ → A → List ℕ → List A → Tried A → Type 0
+Done G k opening rs margin width past taken margins t =
+    (t .reply ≡ record { refusal = 0; value = length (groupsOf G k); second = 0; third = 0 })
+    × ((i : ℕ) → i < length rs → ByteSaid G k opening rs (t .taken) i (getD rs i (new-limit 0)))
+    × ((j : ℕ) → j < length (groupsOf G k)
+    → (margin (t .margins) j ≡ Left (holds G (getD (groupsOf G k) j emptyGroup)) opening rs (t .taken)) × (mag (margin (t .margins) j) ≤ 1_000_000_000))
+    × ((i : ℕ) → length rs ≤ i → getD (t .taken) i 0 ≡ getD taken i 0) × ((i : ℕ) → length (groupsOf G k) * width ≤ i → getD (t .margins) i past ≡ getD margins i past)
+    × (length (t .taken) ≡ length taken) × (length (t .margins) ≡ length margins)
+
+day-done : {A : Type 0} (G : Graph) (k opening : ℕ) (rs : List DayRecord) (margin : List A → ℕ → ℤ) (width : ℕ) (past : A) (taken : List ℕ) (margins : List A) (t : Tried A)
+    → Closes G k opening rs margin width past taken margins t → Done G k opening rs margin width past taken margins t
+day-done G k opening rs margin width past taken margins t c = (
+  c .reply,
+  (λ i l. byte-said G k opening rs (t .taken) i (c .bytes i l)),
+  (λ j l. (c .closing j l, c .within j l)),
+  c .bytes-after,
+  c .closing-after,
+  c .lengths .0,
+  c .lengths .1,
+)
 
 pub record Spelled : Type 0 where
   same-index : Demand3 → (file file′ : List ℕ) (n n′ : ℕ) (ps ps′ : List Pair) (b b′ lent lent′ : List ℕ)
@@ -310,6 +401,41 @@ pub record Spelled : Type 0 where
   put-in-set : (a b : ℕ) (S : LinkSet) (e : Link) → moved (put-in a b) S e ≡ (S e || sameLink e (link a b))
   withdrawn-set : (a b : ℕ) (S : LinkSet) (e : Link) → moved (withdraw a b) S e ≡ (S e && not (sameLink e (link a b)))
   refused-change : RefusalKeeps → (c : Change) (bytes buffer : List ℕ) → change c bytes buffer .reply .refusal ≢ 0 → change c bytes buffer .buffer ≡ buffer
+  -- a limit tried on a day's bets: 7, 10, 16, 15, then by record 9 and 15, then 12, each in front of the next; the levels and limits of document 02
+  trial-7 : TrialRule → (bytes : List ℕ) (k opening : ℕ) (rs : List DayRecord) → readIndex bytes ≡ refuse 7 0 → TrialRefused bytes k opening rs 7
+  trial-10 : TrialRule → (bytes : List ℕ) (G : Graph) (k opening : ℕ) (rs : List DayRecord) → readIndex bytes ≡ passed G → (k < 2) ⊎ (64 < k) → TrialRefused bytes k opening rs 10
+  trial-16 : TrialRule → (bytes : List ℕ) (G : Graph) (k opening : ℕ) (rs : List DayRecord) → readIndex bytes ≡ passed G → 2 ≤ k → k ≤ 64 → 4096 < length rs → TrialRefused bytes k opening rs 16
+  trial-15 : TrialRule → (bytes : List ℕ) (G : Graph) (k opening : ℕ) (rs : List DayRecord) → readIndex bytes ≡ passed G → 2 ≤ k → k ≤ 64 → length rs ≤ 4096 → 1_000_000_000 < opening
+      → TrialRefused bytes k opening rs 15
+  trial-record-9 : TrialRule → (bytes : List ℕ) (G : Graph) (k opening : ℕ) (rs : List DayRecord) (i a s : ℕ) → readIndex bytes ≡ passed G → Opens k opening rs → i < length rs → AllInRange G rs i
+      → getD rs i (new-limit 0) ≡ bet a s → G .n ≤ a → TrialRefused bytes k opening rs 9
+  trial-record-15 : TrialRule → (bytes : List ℕ) (G : Graph) (k opening : ℕ) (rs : List DayRecord) (i a s x : ℕ) → readIndex bytes ≡ passed G → Opens k opening rs → i < length rs → AllInRange G rs i
+      → ((getD rs i (new-limit 0) ≡ bet a s) × (a < G .n) × ((s < 1) ⊎ (1_000_000 < s))) ⊎ ((getD rs i (new-limit 0) ≡ new-limit x) × (1_000_000_000 < x)) → TrialRefused bytes k opening rs 15
+  trial-12 : TrialRule → (bytes : List ℕ) (G : Graph) (k opening : ℕ) (rs : List DayRecord) (taken : List ℕ) (margins : List ℤ) → readIndex bytes ≡ passed G → Opens k opening rs
+      → AllInRange G rs (length rs) → (length taken < length rs) ⊎ (length margins < length (groupsOf G k))
+      → tryLimit bytes k opening rs taken margins ≡ record { reply = refusedBy 12; taken = taken; margins = margins }
+  -- nothing else is refused
+  trial-only : TrialRule → (G : Graph) (k opening : ℕ) (rs : List DayRecord) → ((r : ℕ) × DayFault G k opening rs r) ⊎ (Opens k opening rs × AllInRange G rs (length rs))
+  trial-done : TrialRule → (bytes : List ℕ) (G : Graph) (k opening : ℕ) (rs : List DayRecord) (taken : List ℕ) (margins : List ℤ) → readIndex bytes ≡ passed G → Opens k opening rs
+      → AllInRange G rs (length rs) → length rs ≤ length taken → length (groupsOf G k) ≤ length margins
+      → Done G k opening rs (λ zs j. getD zs j (pos 0)) 1 (pos 0) taken margins (tryLimit bytes k opening rs taken margins)
+  -- from C: eight bytes to a margin; refused or not, as with room for as many margins
+  trial-done-bytes : TrialRule → (bytes : List ℕ) (G : Graph) (k opening : ℕ) (records taken margins : List ℕ) → readIndex bytes ≡ passed G → Opens k opening (recordsIn records)
+      → AllInRange G (recordsIn records) (length (recordsIn records)) → length (recordsIn records) ≤ length taken → length (groupsOf G k) * 8 ≤ length margins
+      → Done G k opening (recordsIn records) (λ b j. marginAt b (j * 8)) 8 0 taken margins (tryLimitBytes bytes k opening records taken margins)
+  trial-bytes : TrialRule → (bytes : List ℕ) (k opening : ℕ) (records taken margins : List ℕ) (zs : List ℤ) → length zs ≡ length margins / 8
+      → (tryLimitBytes bytes k opening records taken margins .reply ≡ tryLimit bytes k opening (recordsIn records) taken zs .reply)
+      × (tryLimitBytes bytes k opening records taken margins .taken ≡ tryLimit bytes k opening (recordsIn records) taken zs .taken)
+  refused-trial : RefusalKeeps → (bytes : List ℕ) (k opening : ℕ) (rs : List DayRecord) (taken : List ℕ) (margins : List ℤ) → tryLimit bytes k opening rs taken margins .reply .refusal ≢ 0
+      → (tryLimit bytes k opening rs taken margins .taken ≡ taken) × (tryLimit bytes k opening rs taken margins .margins ≡ margins)
+  refused-trial-bytes : RefusalKeeps → (bytes : List ℕ) (k opening : ℕ) (records taken margins : List ℕ) → tryLimitBytes bytes k opening records taken margins .reply .refusal ≢ 0
+      → (tryLimitBytes bytes k opening records taken margins .taken ≡ taken) × (tryLimitBytes bytes k opening records taken margins .margins ≡ margins)
+  -- the groups at k: stored groups in the order of their numbers; the group at k of each link is one of them, and each of them is the group at k of its links
+  groups-at-k : (G : Graph) (k : ℕ) → groupsOf G k ≡ filter (λ g. sameList (groupAt G k (leastLink g)) (g .members)) (groups G)
+  group-of-link : TrialRule → (bytes : List ℕ) (G : Graph) (k i j : ℕ) → readIndex bytes ≡ passed G → 2 ≤ k → k ≤ 64 → In j (groupAt G k i)
+      → (g : Group) × In g (groupsOf G k) × (g .members ≡ groupAt G k i)
+  links-of-group : TrialRule → (bytes : List ℕ) (G : Graph) (k : ℕ) (g : Group) → readIndex bytes ≡ passed G → 2 ≤ k → k ≤ 64 → In g (groupsOf G k)
+      → In g (groups G) × ((i : ℕ) → In i (g .members) → groupAt G k i ≡ g .members)
   sequence-tells : ChangesTell → (b x : List ℕ) (G : Graph) (T : LinkSet) → readIndex b ≡ passed G → Changes Changed b (member (G .links)) x T → Tells x (G .n) T
 
 alike : {A B C : Type 0} → AllOrNone A B C → (A ↔ B) × (A ↔ C)
@@ -321,7 +447,7 @@ told : (file : List ℕ) (n : ℕ) (ps : List Pair) → readLinks file ≡ accep
 told file n ps h = record { pairs = ps; is-index = record { file = file; file-accepted = h; bytes = refl }; names = λ e. (λ m. m, λ m. m) }
 
 pub spelled : Spelled
-unfolding moved settle answerBytes answerValue answerSecond checkedAnswer andThen accountsIn encode writeLinks pairsOf readBack readLinks rows holds listingText answer
+unfolding moved settle answerBytes answerValue answerSecond checkedAnswer andThen accountsIn encode writeLinks pairsOf readBack readLinks rows holds listingText answer groupsOf isGroupAt
 spelled = record {
   same-index = λ d file file′ n n′ ps ps′ b b′ lent lent′ h r w h′ r′ w′.
       let s = d file file′ n n′ ps ps′ b b′ h h′ (record { lent = lent; not-refused = r; written = w }) (record { lent = lent′; not-refused = r′; written = w′ }) .same-index in
@@ -433,4 +559,24 @@ spelled = record {
   withdrawn-set = λ a b S e. refl;
   refused-change = λ k. k .change;
   sequence-tells = λ r. r;
+  trial-7 = λ t bytes k opening rs h taken margins. t .no-index bytes k opening rs taken margins h;
+  trial-10 = λ t bytes G k opening rs h l taken margins. t .faulty bytes G k opening rs taken margins 10 h (level (no-level k l));
+  trial-16 = λ t bytes G k opening rs h low high l taken margins. t .faulty bytes G k opening rs taken margins 16 h (many (low, high) l);
+  trial-15 = λ t bytes G k opening rs h low high few l taken margins. t .faulty bytes G k opening rs taken margins 15 h (opened (low, high) few l);
+  trial-record-9 = λ t bytes G k opening rs i a s h o l before q u. fault-at t bytes G k opening rs i 9 h o l before (rw q (bet-outside u));
+  trial-record-15 = λ t bytes G k opening rs i a s x h o l before w. fault-at t bytes G k opening rs i 15 h o l before (out-of-range w);
+  trial-12 = λ t bytes G k opening rs taken margins h o all s. t .short bytes G k opening rs taken margins h (no-fault G k opening rs o all) s;
+  trial-only = λ t G k opening rs. fault-or-range G k opening rs (t .fault-or-none G k opening rs);
+  trial-done = λ t bytes G k opening rs taken margins h o all lt lm.
+      day-done G k opening rs (λ zs j. getD zs j (pos 0)) 1 (pos 0) taken margins (tryLimit bytes k opening rs taken margins)
+      (t .closes bytes G k opening rs taken margins h (no-fault G k opening rs o all) lt lm);
+  trial-done-bytes = λ t bytes G k opening records taken margins h o all lt lm.
+      day-done G k opening (recordsIn records) (λ b j. marginAt b (j * 8)) 8 0 taken margins (tryLimitBytes bytes k opening records taken margins)
+      (t .closes-bytes bytes G k opening records taken margins h (no-fault G k opening (recordsIn records) o all) lt lm);
+  trial-bytes = λ t. t .as-bytes;
+  refused-trial = λ k. k .try-limit;
+  refused-trial-bytes = λ k. k .try-limit-bytes;
+  groups-at-k = λ G k. refl;
+  group-of-link = λ t bytes G k i j h low high m. t .each-group bytes G k i h (low, high) j m;
+  links-of-group = λ t bytes G k g h low high m. t .each-link bytes G k g h (low, high) m;
 }

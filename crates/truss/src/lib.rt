@@ -7,11 +7,12 @@ ghost use Rattle.truss.specs.LoneCases.{LoneCases};
 ghost use Rattle.truss.specs.WholeCalls.{WholeCalls};
 ghost use Rattle.truss.specs.DeskCases.{DeskCases};
 ghost use Rattle.truss.specs.ChangeCases.{ChangeCases};
+ghost use Rattle.truss.specs.BetsCases.{BetsCases};
 ghost use Rattle.truss.specs.Figures.{Figures};
 ghost use Rattle.truss.specs.Spelled.{Spelled};
 
 pub fn definitions()
-    ensures { λ _. ⌜ Cases × RuleCases × WindowCases × FieldCases × StrengthCases × ChainCases × OrderCases × LoneCases × WholeCalls × DeskCases × ChangeCases × Figures × Spelled ⌝ }
+    ensures { λ _. ⌜ Cases × RuleCases × WindowCases × FieldCases × StrengthCases × ChainCases × OrderCases × LoneCases × WholeCalls × DeskCases × ChangeCases × BetsCases × Figures × Spelled ⌝ }
 {
     return;
 }
