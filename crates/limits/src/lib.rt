@@ -1,7 +1,7 @@
 // The figures of documents 01 and 02 as the code has them, each named once. `named_once` promises that they are those of the definitions (truss: Limits), so a limit is
 // changed by its line there and its line here.
 ghost use mathlib.Core.Path.{_≡_};
-ghost use Rattle.truss.specs.Limits.{deskLength, maxAccounts, maxLevel, maxLinks, maxNamed, maxStrength, maxTally, minLevel, minStrength, noGroup, tallyLength, windows};
+ghost use Rattle.truss.specs.Limits.{deskLength, marginLength, maxAccounts, maxLevel, maxLimit, maxLinks, maxNamed, maxRecords, maxStake, maxStrength, maxTally, minLevel, minStake, minStrength, noGroup, recordLength, tallyLength, windows};
 ghost use Rattle.truss.specs.Question.{badLevel};
 ghost use Rattle.limits.specs.Range.{strengthOf};
 
@@ -24,6 +24,20 @@ pub const TALLY_BYTES: usize = 4;
 pub const WINDOWS: usize = 32;
 
 pub const DESK_BYTES: usize = WINDOWS * TALLY_BYTES;
+
+// The most records of a day's bets, the least and the greatest stake, and the greatest limit, in pence.
+pub const MOST_RECORDS: usize = 4096;
+
+pub const LEAST_STAKE: usize = 1;
+
+pub const MOST_STAKE: usize = 1000000;
+
+pub const MOST_LIMIT: usize = 1000000000;
+
+// The bytes of a record and of a margin, from C.
+pub const RECORD_BYTES: usize = 9;
+
+pub const MARGIN_BYTES: usize = 8;
 
 // A strength: a number from MIN to MAX. Another crate gets one from `of` alone, or these two.
 pub struct Strength(usize);
@@ -73,7 +87,7 @@ pub fn bad_level(k: usize) -> bool
 }
 
 // The figures as one value: of the definitions' limits those of accounts, links, named accounts, no group, a tally (its rest, its bytes), a desk (its windows, its
-// bytes), strengths and levels.
+// bytes), strengths and levels, and of a day's bets.
 pub struct Figures {
     pub accounts: usize,
     pub links: usize,
@@ -87,12 +101,25 @@ pub struct Figures {
     pub strongest: usize,
     pub lowest: usize,
     pub highest: usize,
+    pub bets: BetFigures,
+}
+
+// Those of a day's bets: records, stakes, limits, and the bytes of a record and of a margin.
+pub struct BetFigures {
+    pub records: usize,
+    pub least: usize,
+    pub most: usize,
+    pub limit: usize,
+    pub bytes: usize,
+    pub margin: usize,
 }
 
 pub fn named_once() -> Figures
     ensures { λ r. ⌜ (r .accounts ≡ maxAccounts) × (r .links ≡ maxLinks) × (r .named ≡ maxNamed) × (r .none ≡ noGroup) ⌝ }
     ensures { λ r. ⌜ (r .rest ≡ maxTally) × (r .bytes ≡ tallyLength) × (r .windows ≡ windows) × (r .desk ≡ deskLength) ⌝ }
     ensures { λ r. ⌜ (r .weakest ≡ minStrength) × (r .strongest ≡ maxStrength) × (r .lowest ≡ minLevel) × (r .highest ≡ maxLevel) ⌝ }
+    ensures { λ r. ⌜ (r .bets .records ≡ maxRecords) × (r .bets .least ≡ minStake) × (r .bets .most ≡ maxStake) × (r .bets .limit ≡ maxLimit) ⌝ }
+    ensures { λ r. ⌜ (r .bets .bytes ≡ recordLength) × (r .bets .margin ≡ marginLength) ⌝ }
 {
     Figures {
         accounts: MOST_ACCOUNTS,
@@ -107,5 +134,13 @@ pub fn named_once() -> Figures
         strongest: Strength::MAX.0,
         lowest: LEAST_LEVEL,
         highest: Strength::MAX.0,
+        bets: BetFigures {
+            records: MOST_RECORDS,
+            least: LEAST_STAKE,
+            most: MOST_STAKE,
+            limit: MOST_LIMIT,
+            bytes: RECORD_BYTES,
+            margin: MARGIN_BYTES,
+        },
     }
 }
