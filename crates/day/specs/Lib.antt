@@ -1,0 +1,4 @@
+pub mod Records
+pub mod Checks
+pub mod Sums
+pub mod Playing
