@@ -1,0 +1,71 @@
+-- `bets::bytes::try_bytes` meets its contract. Assumes nothing.
+use mathlib.Core.Path.{sym, _∙_}
+use native.Mathlib.Omega.{arith}
+use lib.Seq.{length-take-le}
+use Rattle.index.specs.Open.{index-links, opened-is, not-opened, opened-blank}
+use Rattle.stored.specs.Rows.{graphIn, opened-shape, opened-graph}
+use Rattle.bets.specs.Trial.{bytes-7, bytes-of}
+use borrow.Author.Needs.{needs}
+use Rattle.bets.proofs.bytes.try_bytes.Statement.{statement}
+use Rattle.bets.proofs.bytes.try_bytes.Tie as tie
+
+room-requires : tie.Need-room-requires
+room-requires c κs = search needs
+
+slice-aggregate-open : tie.Need-slice-aggregate-open
+slice-aggregate-open c = search needs
+
+open-requires : tie.Need-open-requires
+open-requires c κs = search needs
+
+enum-told : tie.Need-enum-told
+enum-told c = search needs
+
+answered-requires : tie.Need-answered-requires
+answered-requires c κs = search needs
+
+enum-known-o : tie.Need-enum-known-o
+enum-known-o c = search needs
+
+mul-size : tie.Need-mul-size
+mul-size c = omega (arith, index-links _ _ _ ((opened-is _ (c .before .before .before .before .before .«open» .ensures .0) (c .before .before .o .given .1)) .head))
+
+array-borrow-prefix-work : tie.Need-array-borrow-prefix-work
+array-borrow-prefix-work c = omega (arith, index-links _ _ _ ((opened-is _ (c .before .before .before .before .before .before .before .«open» .ensures .0) (c .before .before .before .before .o .given .1)) .head))
+
+slice-aggregate-try-bytes-of : tie.Need-slice-aggregate-try-bytes-of
+slice-aggregate-try-bytes-of c = sym (length-take-le _ _ (omega (arith, index-links _ _ _ ((opened-is _ (c .before .before .before .before .before .before .before .before .«open» .ensures .0) (c .before .before .before .before .before .o .given .1)) .head))))
+
+try-bytes-of-requires : tie.Need-try-bytes-of-requires
+try-bytes-of-requires c κs = (opened-shape (opened-is _ (c .before .before .before .before .before .before .before .before .«open» .ensures .0) (c .before .before .before .before .before .o .given .1)), (opened-blank _ _ (opened-is _ (c .before .before .before .before .before .before .before .before .«open» .ensures .0) (c .before .before .before .before .before .o .given .1)) (c .before .before .before .before .before .before .before .before .«open» .ensures .1), omega (arith, c .before .before .before .before .before .before .before .before .before .before .before .before .before .before .before .fits .limit)))
+
+returns : tie.Need-returns
+returns c = bytes-7 (c .before .before .before .before .before .before .before .before .before .before .before .args .index .now) (c .before .before .before .before .before .before .before .before .before .before .before .args .k) (c .before .before .before .before .before .before .before .before .before .before .before .args .limit) (c .before .before .before .before .before .before .before .before .before .before .before .args .taken .now) (c .before .before .before .before .before .before .before .before .before .before .before .args .records .now) (c .before .before .before .before .before .before .before .before .before .before .before .args .margins .now) (not-opened _ (c .before .before .before .before .«open» .ensures .0) (c .before .enum-told .given .1)) (c .answered .ensures)
+
+same-length : tie.Need-same-length
+same-length c = search needs
+
+same-length-2 : tie.Need-same-length-2
+same-length-2 c = search needs
+
+returns-2 : tie.Need-returns-2
+returns-2 c = bytes-of (c .before .before .before .before .before .before .before .before .before .before .before .before .before .before .before .before .before .before .before .before .before .args .index .now) (c .before .before .before .before .before .before .before .before .before .before .before .before .before .before .before .before .before .before .before .before .before .args .k) (c .before .before .before .before .before .before .before .before .before .before .before .before .before .before .before .before .before .before .before .before .before .args .limit) (c .before .before .before .before .before .before .before .before .before .before .before .before .before .before .before .before .before .before .before .before .before .args .taken .now) (c .before .before .before .before .before .before .before .before .before .before .before .before .before .before .before .before .before .before .before .before .before .args .records .now) (c .before .before .before .before .before .before .before .before .before .before .before .before .before .before .before .before .before .before .before .before .before .args .margins .now) (opened-graph (opened-is _ (c .before .before .before .before .before .before .before .before .before .before .before .before .before .before .«open» .ensures .0) (c .before .before .before .before .before .before .before .before .before .before .before .o .given .1))) (c .before .before .before .before .before .try-bytes-of .ensures)
+
+pub try-bytes-spec : {M : Type 1} → statement M
+try-bytes-spec =
+    tie.close
+    (tie.spec
+    room-requires
+    slice-aggregate-open
+    open-requires
+    enum-told
+    answered-requires
+    enum-known-o
+    mul-size
+    array-borrow-prefix-work
+    slice-aggregate-try-bytes-of
+    try-bytes-of-requires
+    returns
+    same-length
+    same-length-2
+    returns-2)

@@ -1,0 +1,64 @@
+-- `bets::trial::try_bytes_of` meets its contract. Assumes nothing.
+use native.Mathlib.Omega.{arith}
+use mathlib.Core.Path.{_≡_, refl, _∙_}
+use Rattle.stored.specs.Rows.{sized-few, shape-sized}
+use Rattle.bets.specs.Trial.{in-length, gives-refused, gives-done, closing-row, closing-room}
+use Rattle.truss.specs.Lists.{concatMap}
+use Rattle.truss.specs.Bets.{marginBytes}
+use Rattle.wire.specs.Writing.{written-start}
+use borrow.Author.Needs.{needs}
+use Rattle.bets.proofs.trial.try_bytes_of.Statement.{statement}
+use Rattle.bets.proofs.trial.try_bytes_of.Tie as tie
+
+try-in-requires : tie.Need-try-in-requires
+try-in-requires c κs = (c .before .before .before .before .before .before .before .pre .0, (c .before .before .before .before .before .before .before .pre .1 .0, c .before .before .before .before .before .before .before .pre .1 .1))
+
+answered-requires : tie.Need-answered-requires
+answered-requires c κs = search needs
+
+same-length : tie.Need-same-length
+same-length c = search needs
+
+same-length-2 : tie.Need-same-length-2
+same-length-2 c = search needs
+
+returns : tie.Need-returns
+returns c = gives-refused (c .before .before .before .before .before .before .try-in .ensures) (concatMap marginBytes) (c .before .before .before .before .before .before .before .before .before .before .before .before .before .before .args .margins .now) (c .before .if1 .taken) (c .answered .ensures)
+
+write-bytes-requires : tie.Need-write-bytes-requires
+write-bytes-requires c κs = (closing-row (c .before .before .before .before .before .before .before .try-in .ensures) (c .before .before .if1 .left), omega (arith, closing-room (c .before .before .before .before .before .before .before .try-in .ensures) (c .before .before .if1 .left) .0))
+
+cast-answered : tie.Need-cast-answered
+cast-answered c = omega (arith, closing-room (c .before .before .before .before .before .before .before .before .before .before .try-in .ensures) (c .before .before .before .before .before .if1 .left) .1, sized-few (shape-sized (c .before .before .before .before .before .before .before .before .before .before .before .before .before .before .before .before .before .before .pre .0)))
+
+answered-requires-2 : tie.Need-answered-requires-2
+answered-requires-2 c κs = search needs
+
+same-length-3 : tie.Need-same-length-3
+same-length-3 c = search needs
+
+same-length-4 : tie.Need-same-length-4
+same-length-4 c = search needs
+
+same-length-5 : tie.Need-same-length-5
+same-length-5 c = search needs
+
+returns-2 : tie.Need-returns-2
+returns-2 c = gives-done (c .before .before .before .before .before .before .before .before .before .before .before .try-in .ensures) (c .before .before .before .before .before .before .if1 .left) (concatMap marginBytes) (c .before .before .before .before .before .before .before .before .before .before .before .before .before .before .before .before .before .before .before .args .margins .now) (c .answered2 .ensures) (c .before .before .before .write-bytes .ensures ∙ written-start _ _)
+
+pub try-bytes-of-spec : {M : Type 1} → statement M
+try-bytes-of-spec =
+    tie.close
+    (tie.spec
+    try-in-requires
+    answered-requires
+    same-length
+    same-length-2
+    returns
+    write-bytes-requires
+    cast-answered
+    answered-requires-2
+    same-length-3
+    same-length-4
+    same-length-5
+    returns-2)
