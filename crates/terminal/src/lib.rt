@@ -6,6 +6,7 @@ ghost use Rattle.index.specs.Build.{BuildGives};
 ghost use Rattle.index.specs.Read.{ReadGives};
 ghost use Rattle.desk.specs.DeskBytes.{AskBytesGives};
 ghost use Rattle.changes.specs.Calls.{ChangeGives};
+ghost use Rattle.bets.specs.Trial.{BytesGives};
 use desk::ask_bytes;
 use desk::ask_number;
 use index::Reply;
@@ -41,6 +42,21 @@ pub extern "C" fn fe_withdraw(index: &[u8], a: u32, b: u32, out: &mut [u8]) -> R
     ensures { λ r. ⌜ ChangeGives (withdraw a b) (now (index .entry)) (now (out .entry)) r (now (out .exit)) ⌝ }
 {
     changes::withdraw(index, out, a as usize, b as usize)
+}
+
+// A stake limit tried at level k on a day's records: a byte for each record, and the closing margin of each group at k.
+#[no_mangle]
+pub extern "C" fn fe_try_limit(
+    index: &[u8],
+    records: &[u8],
+    k: u32,
+    limit: u32,
+    taken: &mut [u8],
+    margins: &mut [u8],
+) -> Reply
+    ensures { λ r. ⌜ BytesGives (now (index .entry)) (now (records .entry)) k limit (now (taken .entry)) (now (margins .entry)) r (now (taken .exit)) (now (margins .exit)) ⌝ }
+{
+    bets::bytes::try_bytes(index, records, k, limit, taken, margins)
 }
 
 // A. The strength of link a-b, and how many triangles of at least that weight hold it.
