@@ -31,10 +31,17 @@ typedef struct {
 #define FE_WINDOWS 32
 #define FE_DESK 128
 
+/* Of a limit that is tried on a day's bets: the most records of a day, the bytes of a record and of a margin, the most pence of a stake and of a limit. */
+#define FE_RECORDS_MAX 4096
+#define FE_RECORD 9
+#define FE_MARGIN 8
+#define FE_STAKE_MAX 1000000
+#define FE_LIMIT_MAX 1000000000
+
 /* Bytes of stack that are enough for any call, below the caller's frame. No function calls itself, directly or through others, and each frame has a fixed size, so the
- * deepest row of calls bounds every call, whatever is lent: 147,928 bytes of fe_build, 147,976 of fe_read, 148,024 of a change, 153,080 of a question. Summed from
- * the object code (tests/frames) and measured (tests/c/stack.c), not proved. The other 10,760 bytes are for the C library's memset and memcpy: a first call that had to
- * bind memset took 3,088 of them. A thread needs all this and what its own functions take. */
+ * deepest row of calls bounds every call, whatever is lent: 147,928 bytes of fe_build, 147,976 of fe_read, 148,024 of a change, 153,080 of a question,
+ * TODO of fe_try_limit. Summed from the object code (tests/frames) and measured (tests/c/stack.c), not proved. The other 10,760 bytes are for the C library's memset and
+ * memcpy: a first call that had to bind memset took 3,088 of them. A thread needs all this and what its own functions take. */
 #define FE_STACK_MAX 163840
 
 /* Every call:
@@ -181,6 +188,45 @@ fe_reply fe_group_links(const uint8_t *index, size_t index_len, uint32_t a, uint
  * Refused by 13, 7, 9 (any of the four accounts), 10, 11 (either pair), 12, in this order. */
 fe_reply fe_chain(const uint8_t *index, size_t index_len, uint32_t a, uint32_t b, uint32_t c, uint32_t d, uint32_t k, uint8_t *answer, size_t answer_len,
                   uint32_t window, uint8_t *desk, size_t desk_len);
+
+/* A limit tried on a day's bets: at a level k and under a stake limit, which bets of a row of records would be taken, and what would be left to each group at the close.
+ * It is no question: it names no window and moves no tally. Nothing is kept: each trial begins with no stake taken. The words are those of the questions, and these:
+ *   margin  of a group: the limit that holds at the time less the stakes of the bets taken until then from accounts that the group holds.
+ *   bet     an account and a stake in pence. It is taken just if every group at k that holds the account has a margin of at least the stake. An account that is in no
+ *           group at k is measured as a group by itself, against the same limit, with its own bets only.
+ * A new limit holds for all groups and accounts from there on. It undoes no bet: after a lowered limit a margin may be below zero, and is given so. A margin lies from
+ * -FE_LIMIT_MAX to FE_LIMIT_MAX.
+ *
+ *   index, index_len      the index; it is only read. Any bytes may be lent: the call checks them all, which costs about one build.
+ *   records, records_len  the day, at most FE_RECORDS_MAX records of FE_RECORD bytes each; they are only read. A record is a kind of one byte, an account of four, an
+ *                         amount of four, high byte first. Kind 0 is a bet, with its stake from 1 to FE_STAKE_MAX. Every other kind is a new limit from 0 to FE_LIMIT_MAX,
+ *                         whose account is not looked at; so no kind is unknown. Fewer than FE_RECORD bytes at the end are no record: they are not looked at and not
+ *                         refused, and a host that wants to notice a cut row has to look at records_len itself.
+ *   k                     the level, 2 to 64.
+ *   limit                 the limit at the start, 0 to FE_LIMIT_MAX pence.
+ *   taken, taken_len      where a byte for each record goes: 1 if the bet is taken, 0 if not; 1 for a new limit. FE_RECORDS_MAX bytes are enough for any day.
+ *   margins, margins_len  where the closing margin of each group at k goes, by rising group number: FE_MARGIN bytes each, two's complement, high byte first. 2,048 margins
+ *                         are enough for any index. A stored group is one at k if its strength is k or more and that of its parent, if it has one, is below k. An account
+ *                         in no group at k has no margin among these. To read the margin at `at`:
+ *                             uint64_t bits = 0;
+ *                             for (int i = 0; i < FE_MARGIN; i++) bits = bits << 8 | at[i];
+ *                             int64_t margin = (int64_t)bits;
+ *
+ * Done: `value` is the number of margins written, which may be 0. The bytes after the last record's, and after the last margin, stay.
+ *
+ * Refused, with place 0, both buffers as they were: the first that applies, in this order.
+ *     7   the bytes are not the index of any links file
+ *     10  k below 2 or above 64
+ *     16  more than FE_RECORDS_MAX records
+ *     15  the limit at the start is above FE_LIMIT_MAX
+ *   each record, in their order
+ *     9   a bet of an account not below the number of accounts
+ *     15  a stake of 0 or above FE_STAKE_MAX, or a new limit above FE_LIMIT_MAX
+ *   the buffers
+ *     12  taken_len is below the number of records, or margins_len below FE_MARGIN times the number of groups at k; buffers of just so many bytes suffice, and for
+ *         no records or no groups empty ones do */
+fe_reply fe_try_limit(const uint8_t *index, size_t index_len, const uint8_t *records, size_t records_len, uint32_t k, uint32_t limit, uint8_t *taken, size_t taken_len,
+                      uint8_t *margins, size_t margins_len);
 
 #ifdef __cplusplus
 }
