@@ -5,12 +5,14 @@ use crate::asked::Asker;
 use crate::changed::{Changer, Plain};
 use crate::known::named;
 use crate::lent::{compare_all, BUILD, READ, RULES};
+use crate::tried::{to_bytes, Record, Trier};
 use reference::card::Card;
 use reference::fast;
 use reference::random::Random;
 use reference::rules::Rules;
 use terminal::Change::{PutIn, Withdraw};
 use terminal::Question::{A, B, C, D, E, F, G};
+use terminal::{Trial, MARGIN};
 
 /// The rules before an index began with kind 7.
 const BEFORE: Rules = Rules { requests: 6 };
@@ -28,7 +30,7 @@ fn not_read(noise: &mut Random, bytes: &[u8]) -> Result<(), String> {
     }
 }
 
-/// A reading, both changes and the seven questions, which would be good on the card's index, are refused by 7.
+/// A reading, both changes, the seven questions and a limit tried, which would be good on the card's index, are refused by 7.
 fn no_index(noise: &mut Random, card: &Card, bytes: &[u8]) -> Result<(), String> {
     not_read(noise, bytes)?;
     let (a, b) = card.links.first().copied().unwrap_or((0, 0));
@@ -51,7 +53,13 @@ fn no_index(noise: &mut Random, card: &Card, bytes: &[u8]) -> Result<(), String>
             return Err(format!("{question:?} answered"));
         }
     }
-    Ok(())
+    let mut trier = Trier::new(terminal::try_on, noise, bytes, card.accounts, None);
+    let trial = Trial { k: 2, limit: 1 };
+    let reply = trier.one(trial, &to_bytes(&[Record::bet(0, 1)]), [1, MARGIN * 2_048])?;
+    match reply.refusal {
+        7 => Ok(()),
+        _ => Err("a limit tried".to_string()),
+    }
 }
 
 /// A build of these bytes is refused by 1 at 0.

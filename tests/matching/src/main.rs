@@ -1,15 +1,17 @@
 //! Matches the library's C calls against the reference, an independent program: build and reading on random, shuffled and damaged files and on files at the
 //! limits, random questions and changes on the random indexes, good and damaged, questions with known answers, questions A, C to E and G, the windows and the faults of
-//! changes gone through in order, long rows of changes, lone links judged from the links alone, files with the head of the other file; and the lister's text.
+//! changes gone through in order, long rows of changes, lone links judged from the links alone, files with the head of the other file; limits tried on days' bets, drawn,
+//! gone through in order and known, and judged from the records and bytes alone; and the lister's text.
 //!
-//! With no word: all of it. With a number: the files, questions and changes of that seed. With a name: that file at the limits, that known answer, that row, or that
-//! part of what is gone through in order.
-//! The last line is `N passed, M failed`, one for each file, question and change compared and for each planted fault that the comparison must find.
+//! With no word: all of it. With a number: the files, questions, changes and days of that seed. With a name: that file at the limits, that known answer or day, that row, or
+//! that part of what is gone through in order.
+//! The last line is `N passed, M failed`, one for each file, question, change and day compared and for each planted fault that the comparison must find.
 
 mod asked;
 mod chains;
 mod changed;
 mod changes;
+mod days;
 mod firmness;
 mod heads;
 mod known;
@@ -20,8 +22,10 @@ mod lone;
 mod parties;
 mod planted;
 mod planted_changes;
+mod planted_days;
 mod planted_questions;
 mod questions;
+mod tried;
 mod windows;
 
 use std::process::ExitCode;
@@ -37,8 +41,10 @@ use reference::damage;
 use reference::index::Index;
 use reference::random::{card, shuffle_pairs, Random, Shape};
 use terminal::{Change, Question};
+use tried::{Parties, Trier};
 
-/// Each seed makes a card, a shuffled copy of it and two damaged ones, and reads its index and a damaged one, and asks questions on both, and makes changes from both.
+/// Each seed makes a card, a shuffled copy of it and two damaged ones, and reads its index and a damaged one, and asks questions on both, and makes changes from both, and
+/// tries limits on both.
 const SEEDS: u64 = 6_000;
 
 /// One seed in so many has its indexes listed: that runs a program.
@@ -46,6 +52,12 @@ const LISTED: u64 = 11;
 
 /// One seed in so many has its card put under other heads, where most calls are refused at once.
 const HEADED: u64 = 5;
+
+/// One seed in so many tries a limit on a damaged index, where most are refused at once.
+const DAMAGED: u64 = 4;
+
+/// Cards of up to so many links have their days judged from the bytes alone, by groups found without haste.
+const JUDGED: usize = 60;
 
 /// So many failures show the file's bytes; the others can be repeated.
 const SHOWN: usize = 5;
@@ -59,6 +71,7 @@ struct Count {
     asked: Met,
     changed: changed::Met,
     lone: lone::Met,
+    tried: tried::Met,
     /// Cards under other heads: without a lone link, with some.
     heads: [usize; 2],
 }
@@ -140,6 +153,30 @@ impl Count {
             }
         }
         self.changed.merge(&changer.met);
+    }
+
+    /// Tries the limits, each day with its own rooms or with rooms of every kind. Those after a failure are left out.
+    fn try_days(
+        &mut self,
+        noise: &mut Random,
+        word: &str,
+        card: (&[u8], u16, Option<&Parties>),
+        days: &[(days::Drawn, Option<[usize; 2]>)],
+    ) {
+        let (index, accounts, parties) = card;
+        let mut trier = Trier::new(terminal::try_on, noise, index, accounts, parties);
+        for (day, rooms) in days {
+            let found = match rooms {
+                Some(rooms) => trier.one(day.trial, &day.records, *rooms).map(drop),
+                None => trier.compare_all(day.trial, &day.records),
+            };
+            let failed = found.is_err();
+            self.add(word, index, &format!("{day:?}"), found);
+            if failed {
+                return;
+            }
+        }
+        self.tried.merge(&trier.met);
     }
 }
 
@@ -229,6 +266,27 @@ fn seed(count: &mut Count, seed: u64) {
         let (of_index, of_damaged) = (draw(number), draw(1));
         count.change(&mut noise, &word, &plain, &index, &of_index);
         count.change(&mut noise, &word, &plain, &damaged, &of_damaged);
+
+        // A day costs about one, and what its records take.
+        let (number, most) = match pairs.len() {
+            0..=80 => (2, 40),
+            81..=400 => (1, 200),
+            _ => (random.below(2), 2_000),
+        };
+        let refused = usize::from(seed % DAMAGED == 0);
+        let mut draw = |number| -> Vec<_> {
+            { 0..number }
+                .map(|_| days::draw(&mut random, drawn.accounts, &pairs, most))
+                .map(|day| (day, None))
+                .collect()
+        };
+        let (of_index, of_damaged) = (draw(number), draw(refused));
+        let read = Card::read(RULES, &whole).expect("a good card");
+        let parties = (pairs.len() <= JUDGED).then(|| Parties::of(&read));
+        let on_index = (index.as_slice(), drawn.accounts, parties.as_ref());
+        count.try_days(&mut noise, &word, on_index, &of_index);
+        let on_damaged = (damaged.as_slice(), drawn.accounts, None);
+        count.try_days(&mut noise, &word, on_damaged, &of_damaged);
     }
 }
 
@@ -236,7 +294,8 @@ fn seed(count: &mut Count, seed: u64) {
 fn planted_faults(count: &mut Count) {
     let calls = { planted::found().into_iter() }
         .chain(planted_questions::found())
-        .chain(planted_changes::found());
+        .chain(planted_changes::found())
+        .chain(planted_days::found());
     for (name, found) in calls {
         if found {
             count.passed += 1;
@@ -371,6 +430,37 @@ fn changes_in_order(count: &mut Count, only: Option<&str>) {
     }
 }
 
+/// Days gone through in order, from an index and some from a damaged one, and those with known bytes and margins.
+fn days_in_order(count: &mut Count, only: Option<&str>) {
+    let wanted = |name: &str| only.is_none_or(|only| only == name);
+    for lot in days::all().iter().filter(|lot| wanted(lot.name)) {
+        let mut noise = Random::new(lot.days.len() as u64);
+        let file = links_file(lot.accounts, &lot.links);
+        let mut index = known::index_of(&file);
+        let parties = Parties::of(&Card::read(RULES, &file).expect("a good card"));
+        let card = (index.as_slice(), lot.accounts, Some(&parties));
+        count.try_days(&mut noise, lot.name, card, &lot.days);
+        if lot.on_damaged {
+            index[10] += 1;
+            let card = (index.as_slice(), lot.accounts, None);
+            count.try_days(&mut noise, lot.name, card, &lot.days);
+        }
+    }
+    for day in days::known().iter().filter(|day| wanted(day.name)) {
+        let mut noise = Random::new(day.taken.len() as u64);
+        let file = links_file(day.accounts, &day.links);
+        let index = known::index_of(&file);
+        let parties = Parties::of(&Card::read(RULES, &file).expect("a good card"));
+        let card = (index.as_slice(), day.accounts, Some(&parties));
+        count.try_days(&mut noise, day.name, card, &[(day.day.clone(), None)]);
+        let found = match day.holds(terminal::try_on, &index) {
+            true => Ok(()),
+            false => Err("not the known bytes and margins".to_string()),
+        };
+        count.add(day.name, &index, "a known day", found);
+    }
+}
+
 /// Long rows of changes. Those after a failure are left out.
 fn rows(count: &mut Count, only: Option<&str>) {
     let wanted = |name: &str| only.is_none_or(|only| only == name);
@@ -410,6 +500,7 @@ fn main() -> ExitCode {
             lone_links(&mut count, None);
             changes_in_order(&mut count, None);
             rows(&mut count, None);
+            days_in_order(&mut count, None);
             (0..SEEDS).for_each(|number| seed(&mut count, number));
             println!(
                 "links files accepted, and refused by 1 to 6: {:?}",
@@ -421,8 +512,9 @@ fn main() -> ExitCode {
                 "cards under other heads, without a lone link and with some: {:?}",
                 count.heads
             );
+            let tried = count.tried.show();
             let met = [count.met.as_slice(), &count.heads].concat();
-            if met.contains(&0) || !asked || !changed || !lone {
+            if met.contains(&0) || !asked || !changed || !lone || !tried {
                 count.failed += 1;
                 println!("FAILED: some refusal or answer was never met");
             }
@@ -436,6 +528,7 @@ fn main() -> ExitCode {
                 lone_links(&mut count, Some(&word));
                 changes_in_order(&mut count, Some(&word));
                 rows(&mut count, Some(&word));
+                days_in_order(&mut count, Some(&word));
             }
         },
     }

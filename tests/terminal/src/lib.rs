@@ -1,7 +1,7 @@
 //! The calls of include/footballelm.h, as a C host makes them.
 
 /// So many requests of document 02 are in the library; the reference goes by this number.
-pub const REQUESTS: u8 = 7;
+pub const REQUESTS: u8 = 8;
 
 /// FE_INDEX_MAX, and FE_CHAIN_MAX, which is enough for any answer.
 pub const INDEX_MAX: usize = 40_960;
@@ -10,6 +10,13 @@ pub const ANSWER_MAX: usize = 6_140;
 /// FE_WINDOWS, and FE_DESK, the bytes of a desk record that the calls use.
 pub const WINDOWS: u32 = 32;
 pub const DESK: usize = 128;
+
+/// FE_RECORDS_MAX, FE_RECORD and FE_MARGIN, FE_STAKE_MAX and FE_LIMIT_MAX.
+pub const RECORDS_MAX: usize = 4_096;
+pub const RECORD: usize = 9;
+pub const MARGIN: usize = 8;
+pub const STAKE_MAX: u32 = 1_000_000;
+pub const LIMIT_MAX: u32 = 1_000_000_000;
 
 #[repr(C)]
 #[derive(Clone, Copy, Debug, PartialEq, Eq)]
@@ -121,6 +128,18 @@ extern "C" {
         window: u32,
         desk: *mut u8,
         desk_len: usize,
+    ) -> Reply;
+    pub fn fe_try_limit(
+        index: *const u8,
+        index_len: usize,
+        records: *const u8,
+        records_len: usize,
+        k: u32,
+        limit: u32,
+        taken: *mut u8,
+        taken_len: usize,
+        margins: *mut u8,
+        margins_len: usize,
     ) -> Reply;
 }
 
@@ -236,4 +255,51 @@ pub fn put(question: &Question, index: &[u8], answer: &mut [u8], desk: &mut [u8]
         desk: (desk.as_mut_ptr(), desk.len()),
     };
     unsafe { ask(question, &lent) }
+}
+
+/// A level and the limit at the start, to be tried on a day's bets.
+#[derive(Clone, Copy, Debug, PartialEq, Eq)]
+pub struct Trial {
+    pub k: u32,
+    pub limit: u32,
+}
+
+/// What a trial is lent.
+#[derive(Clone, Copy)]
+pub struct Day {
+    pub index: Slice,
+    pub records: Slice,
+    pub taken: Slice,
+    pub margins: Slice,
+}
+
+/// Tries the limit.
+///
+/// # Safety
+/// Each slice is good memory; `taken` and `margins` may be written.
+pub unsafe fn try_on(trial: Trial, day: &Day) -> Reply {
+    let Trial { k, limit } = trial;
+    let Day {
+        index: (i, m),
+        records: (d, n),
+        taken: (t, r),
+        margins: (g, s),
+    } = *day;
+    fe_try_limit(i, m, d, n, k, limit, t, r, g, s)
+}
+
+pub fn try_limit(
+    trial: Trial,
+    index: &[u8],
+    records: &[u8],
+    taken: &mut [u8],
+    margins: &mut [u8],
+) -> Reply {
+    let day = Day {
+        index: (index.as_ptr().cast_mut(), index.len()),
+        records: (records.as_ptr().cast_mut(), records.len()),
+        taken: (taken.as_mut_ptr(), taken.len()),
+        margins: (margins.as_mut_ptr(), margins.len()),
+    };
+    unsafe { try_on(trial, &day) }
 }
