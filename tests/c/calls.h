@@ -1,10 +1,10 @@
-/* The eleven calls in one form, so that a test can go through them all and can put a faulty one in a call's place. */
+/* The twelve calls in one form, so that a test can go through them all and can put a faulty one in a call's place. */
 #ifndef CALLS_H
 #define CALLS_H
 
 #include "footballelm.h"
 
-enum call { BUILD, READ, PUT_IN, WITHDRAW, STRENGTH, JOINED, GROUPS_AT, STRONGEST, ALL_GROUPS, GROUP_LINKS, CHAIN, CALLS };
+enum call { BUILD, READ, PUT_IN, WITHDRAW, STRENGTH, JOINED, GROUPS_AT, STRONGEST, ALL_GROUPS, GROUP_LINKS, CHAIN, TRY_LIMIT, CALLS };
 
 struct slice {
     uint8_t *at;
@@ -14,8 +14,9 @@ struct slice {
 /* A call with its numbers and all that it is lent. Not every call has all of it. */
 struct asked {
     enum call call;
-    uint32_t number[4], k, window;
-    struct slice read, accounts, buffer, desk; /* a buffer is an index, a links file or an answer */
+    uint32_t number[4], k, window, limit;
+    struct slice read, accounts, buffer, desk; /* a buffer is an index, a links file, an answer or the bytes of a day's records */
+    struct slice records, margins;
 };
 
 /* The library, or the library with a fault. */
@@ -24,7 +25,7 @@ typedef fe_reply library(const struct asked *asked);
 static inline const char *name_of(enum call call) {
     static const char *const NAME[CALLS] = {
         "fe_build",     "fe_read",             "fe_put_in",     "fe_withdraw",    "fe_strength", "fe_joined",
-        "fe_groups_at", "fe_strongest_groups", "fe_all_groups", "fe_group_links", "fe_chain",
+        "fe_groups_at", "fe_strongest_groups", "fe_all_groups", "fe_group_links", "fe_chain",    "fe_try_limit",
     };
     return NAME[call];
 }
@@ -34,7 +35,7 @@ static inline int is_change(enum call call) {
 }
 
 static inline int is_question(enum call call) {
-    return call > WITHDRAW;
+    return call > WITHDRAW && call != TRY_LIMIT;
 }
 
 static inline int has_accounts(enum call call) {
@@ -42,12 +43,12 @@ static inline int has_accounts(enum call call) {
 }
 
 static inline int has_level(enum call call) {
-    return call == GROUPS_AT || call == GROUP_LINKS || call == CHAIN;
+    return call == GROUPS_AT || call == GROUP_LINKS || call == CHAIN || call == TRY_LIMIT;
 }
 
 /* How many of a call's numbers are accounts: two for each link. */
 static inline uint32_t ends_of(enum call call) {
-    return call <= READ || has_accounts(call) ? 0 : call == JOINED || call == CHAIN ? 4 : 2;
+    return call <= READ || has_accounts(call) || call == TRY_LIMIT ? 0 : call == JOINED || call == CHAIN ? 4 : 2;
 }
 
 static inline int has_buffer(enum call call) {
@@ -56,7 +57,7 @@ static inline int has_buffer(enum call call) {
 
 static inline fe_reply make_call(const struct asked *asked) {
     const uint32_t *n = asked->number, w = asked->window;
-    struct slice i = asked->read, v = asked->accounts, o = asked->buffer, d = asked->desk;
+    struct slice i = asked->read, v = asked->accounts, o = asked->buffer, d = asked->desk, r = asked->records, m = asked->margins;
     switch (asked->call) {
     case BUILD: return fe_build(i.at, i.length, o.at, o.length);
     case READ: return fe_read(i.at, i.length, o.at, o.length);
@@ -68,7 +69,8 @@ static inline fe_reply make_call(const struct asked *asked) {
     case STRONGEST: return fe_strongest_groups(i.at, i.length, v.at, v.length, o.at, o.length, w, d.at, d.length);
     case ALL_GROUPS: return fe_all_groups(i.at, i.length, v.at, v.length, o.at, o.length, w, d.at, d.length);
     case GROUP_LINKS: return fe_group_links(i.at, i.length, n[0], n[1], asked->k, o.at, o.length, w, d.at, d.length);
-    default: return fe_chain(i.at, i.length, n[0], n[1], n[2], n[3], asked->k, o.at, o.length, w, d.at, d.length);
+    case CHAIN: return fe_chain(i.at, i.length, n[0], n[1], n[2], n[3], asked->k, o.at, o.length, w, d.at, d.length);
+    default: return fe_try_limit(i.at, i.length, r.at, r.length, asked->k, asked->limit, o.at, o.length, m.at, m.length);
     }
 }
 

@@ -18,6 +18,7 @@
 enum { PAINT = 0xA5, PAGE = 4096, STACK = 1 << 20, NAMED = 16, ALIGNED = 16 };
 
 static uint8_t links[FE_LINKS_MAX], index_bytes[FE_INDEX_MAX], back[FE_LINKS_MAX], second[FE_INDEX_MAX], accounts[2 * NAMED], answer[FE_CHAIN_MAX], desk[FE_DESK];
+static uint8_t records[FE_RECORDS_MAX * FE_RECORD], taken[FE_RECORDS_MAX], margins[FE_MARGIN];
 static size_t links_len, length;
 static uint32_t last;
 static char *stack; /* its lowest byte; right below it lies a guard page */
@@ -50,6 +51,7 @@ static void draw(uint32_t first, int nest) {
     links_len = (size_t)(at - links);
     last--;
     for (uint8_t a = 0; a < NAMED; a++) accounts[2 * a + 1] = a;
+    for (uint32_t i = 0; i < FE_RECORDS_MAX; i++) records[FE_RECORD * i + 4] = (uint8_t)(i % (last + 2)), records[FE_RECORD * i + 8] = 1; /* a penny on each in turn */
 }
 
 /* The call on this card that goes deepest. */
@@ -59,6 +61,10 @@ static void prepare(enum call call, size_t room) {
     if (call == STRENGTH || call == WITHDRAW) asked.number[0] = 1, asked.number[1] = last;
     if (call == PUT_IN) asked.number[1] = last + 1;
     if (is_change(call)) asked.buffer = (struct slice){second, sizeof second};
+    if (call == TRY_LIMIT) {
+        asked.records = (struct slice){records, sizeof records}, asked.limit = FE_RECORDS_MAX / 2;
+        asked.buffer = (struct slice){taken, sizeof taken}, asked.margins = (struct slice){margins, sizeof margins};
+    }
     if (call == CHAIN) asked.number[0] = 2, asked.number[1] = 3; /* two triangles from 1-last, or three */
     if (call == READ) asked.buffer = (struct slice){back, sizeof back};
     if (call == BUILD) asked.read = (struct slice){links, links_len}, asked.buffer = (struct slice){index_bytes, room};
