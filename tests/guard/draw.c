@@ -306,7 +306,53 @@ static void draw_desk(struct random *r, struct turn *t) {
 
 static void draw_room(struct random *r, struct turn *t) {
     t->room = (uint8_t)random_below(r, ROOMS), t->given = (uint16_t)random_number(r);
-    if (random_below(r, 2)) t->given %= 300;
+    t->wide = (uint8_t)random_below(r, random_below(r, 2) ? ROOMS : EXACT + 1), t->given_wide = (uint16_t)random_number(r);
+    if (random_below(r, 2)) t->given %= 300, t->given_wide %= 300;
+}
+
+/* Mostly within what a day's bets come to. */
+static uint32_t some_limit(struct random *r, uint32_t whole) {
+    static const uint32_t EDGES[] = {0, 0, 1, FE_LIMIT_MAX - 1, FE_LIMIT_MAX, FE_LIMIT_MAX + 1, UINT32_C(0x80000000), UINT32_MAX};
+    return random_below(r, 40) ? random_below(r, (uint64_t)whole + 1) : EDGES[random_below(r, sizeof EDGES / sizeof *EDGES)];
+}
+
+static uint32_t some_stake(struct random *r, uint32_t most) {
+    static const uint32_t EDGES[] = {0, 1, FE_STAKE_MAX - 1, FE_STAKE_MAX, FE_STAKE_MAX, FE_STAKE_MAX + 1, UINT32_C(0x1000001), UINT32_C(0x80000001), UINT32_MAX};
+    return random_below(r, 120) ? 1 + random_below(r, most) : EDGES[random_below(r, sizeof EDGES / sizeof *EDGES)];
+}
+
+/* How long the day is: the row once, none of it, again and again up to as many records as there may be, or one more; then a tail. */
+static void draw_day_len(struct random *r, struct turn *t) {
+    t->day_len = t->row_len;
+    switch (random_below(r, 24)) {
+    case 0: t->day_len = 0; break;
+    case 1: t->day_len = FE_RECORD * FE_RECORDS_MAX; break;
+    case 2: t->day_len = FE_RECORD * (FE_RECORDS_MAX + 1); break;
+    case 3: t->day_len = (uint16_t)random_below(r, FE_RECORD * (FE_RECORDS_MAX + 1)); break;
+    default: break;
+    }
+    if (random_below(r, 3) == 0) t->day_len = (uint16_t)(t->day_len + random_below(r, FE_RECORD));
+}
+
+/* Bets of a few accounts, so that margins fill up, and new limits between, about what is staked in all. */
+static void draw_day(struct random *r, struct turn *t) {
+    static const uint32_t MOST[] = {2, 9, 100, FE_STAKE_MAX};
+    static const uint8_t KINDS[] = {1, 1, 2, 3, 128, 255};
+    uint32_t most = MOST[random_below(r, 4)], count = 1 + random_below(r, TURN_ROW / FE_RECORD), limits = 2 + random_below(r, 30), few[4], accounts = accounts_of(t);
+    t->row_len = (uint16_t)(FE_RECORD * count), draw_day_len(r, t);
+    uint64_t whole = (uint64_t)most * (1 + t->day_len / FE_RECORD / 3);
+    if (whole > FE_LIMIT_MAX) whole = FE_LIMIT_MAX;
+    for (int i = 0; i < 4; i++) few[i] = random_below(r, 3) ? some_account(r, t) : busiest_account(t), few[i] %= random_below(r, 8) ? accounts : UINT32_MAX;
+    for (uint32_t i = 0; i < count; i++) {
+        uint8_t *record = t->row + FE_RECORD * (size_t)i;
+        int bet = random_below(r, limits) != 0;
+        uint32_t account = random_below(r, 12) ? few[random_below(r, 4)] : random_below(r, accounts);
+        if (random_below(r, bet ? 250 : 4) == 0) account = random_below(r, 2) ? accounts : account + (UINT32_C(1) << (8 + random_below(r, 24)));
+        record[0] = bet ? 0 : KINDS[random_below(r, sizeof KINDS)];
+        put_four(record + 1, account), put_four(record + 5, bet ? some_stake(r, most) : some_limit(r, (uint32_t)whole));
+    }
+    t->limit = some_limit(r, (uint32_t)whole);
+    if (random_below(r, 24) == 0) t->row_len = (uint16_t)random_below(r, t->row_len + 1u); /* records out of step */
 }
 
 static void draw_edit(struct random *r, struct turn *t) {
@@ -322,8 +368,8 @@ static void draw_edit(struct random *r, struct turn *t) {
 
 void draw_fresh(struct random *r, struct turn *t) {
     t->call = (uint8_t)random_below(r, CALLS), t->as_card = 1, t->lay = (uint8_t)random_number(r), t->edits = 0;
-    if (random_below(r, 4)) t->lay &= (uint8_t)~ACCOUNTS_INSIDE;
-    draw_card(r, t), draw_numbers(r, t), draw_accounts(r, t), draw_level(r, t), draw_desk(r, t), draw_room(r, t);
+    if (random_below(r, 4)) t->lay &= (uint8_t)~INSIDE;
+    draw_card(r, t), draw_numbers(r, t), draw_accounts(r, t), draw_level(r, t), draw_desk(r, t), draw_room(r, t), draw_day(r, t);
     if (random_below(r, 4) == 0) draw_edit(r, t);
 }
 
@@ -341,11 +387,11 @@ static void freeze(struct random *r, struct turn *t) {
 }
 
 static void change_once(struct random *r, struct turn *t, const struct turn *other) {
-    switch (random_below(r, 16)) {
+    switch (random_below(r, 17)) {
     case 0: case 1: case 2: case 3: change_graph(r, t, other); break;
     case 4: if (random_below(r, 2)) change_bytes(r, t); break;
     case 5: t->call = (uint8_t)random_below(r, CALLS); break;
-    case 6: t->lay ^= (uint8_t)(1 << random_below(r, 6)); break;
+    case 6: t->lay ^= (uint8_t)(1 << random_below(r, 8)); break;
     case 7: draw_room(r, t); break;
     case 8: draw_desk(r, t); break;
     case 9: draw_numbers(r, t); break;
@@ -353,6 +399,7 @@ static void change_once(struct random *r, struct turn *t, const struct turn *oth
     case 11: draw_level(r, t); break;
     case 12: draw_edit(r, t); break;
     case 13: if (t->edits) t->edits--; break;
+    case 15: draw_day(r, t); break;
     case 14: memcpy(t->card, other->card, other->card_len), t->card_len = other->card_len; break;
     default: freeze(r, t); break;
     }

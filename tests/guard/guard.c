@@ -17,18 +17,26 @@
 #include <string.h>
 #include <time.h>
 
-enum { TURNS = 150000, PLANTED_TURNS = 20000, KEPT = 1 << 15, SHOWN = 5, REPLIES = 15 };
+enum { TURNS = 150000, PLANTED_TURNS = 20000, KEPT = 1 << 15, SHOWN = 5, REPLIES = 17 };
 
 /* The refusals that each call can have. */
 static const uint8_t REFUSALS[CALLS][8] = {
     {1, 2, 3, 4, 5, 6, 12}, {7, 12}, {7, 9, 5, 14, 3, 12}, {7, 9, 11, 12}, {7, 9, 11, 12, 13}, {7, 9, 11, 12, 13}, {7, 8, 9, 10, 12, 13}, {7, 8, 9, 12, 13},
-    {7, 8, 9, 12, 13}, {7, 9, 10, 11, 12, 13}, {7, 9, 10, 11, 12, 13},
+    {7, 8, 9, 12, 13}, {7, 9, 10, 11, 12, 13}, {7, 9, 10, 11, 12, 13}, {7, 10, 16, 15, 9, 12},
 };
 
 /* Answers with lone links, and those at 2 without. */
 static const char *const LONE[LONES] = {
     "B of a lone link with itself", "C at 2 of lone links", "C at 2 of others", "C at 2 of both", "D of lone links", "E of lone links and others",
     "F at 2 of a lone link", "F at 2 of others", "G at 2 of a lone link with itself", "G at 2 of another with itself",
+};
+
+/* What days that were tried had. */
+static const char *const DAY[DAYS] = {
+    "a bet for which one group has room and another not", "a bet taken of an account in several groups", "a bet taken of an account in no group",
+    "a bet refused of an account in no group", "a bet that leaves a margin of 0", "a bet refused by one penny", "a bet refused where a margin is below zero",
+    "a closing margin below zero", "a lowered limit", "a bet taken in a lone pair", "no record", "4,096 records", "a tail", "a new limit of an account that there is not",
+    "a kind above 1", "no margin",
 };
 
 struct kept {
@@ -38,7 +46,7 @@ struct kept {
 
 static struct kept kept[KEPT];
 static size_t kept_count;
-static uint64_t passed, failed, made, met_count[CALLS][REPLIES], reordered[CALLS], other_heads[CALLS], lone[LONES + 1], answered[FE_WINDOWS];
+static uint64_t passed, failed, made, met_count[CALLS][REPLIES], reordered[CALLS], other_heads[CALLS], lone[LONES + 1], days[DAYS], answered[FE_WINDOWS];
 
 static uint8_t data[TURN_MAX];
 static struct turn turn, other;
@@ -107,6 +115,7 @@ static int one(const struct turn *t) {
     passed++;
     met_count[met.call][met.reply.refusal]++, reordered[met.call] += (uint64_t)met.reordered;
     other_heads[met.call] += (uint64_t)met.other_head, lone[met.lone]++;
+    for (int kind = 0; kind < DAYS; kind++) days[kind] += met.days >> kind & 1;
     if (is_question(met.call) && met.reply.refusal == 0) answered[t->window]++;
     return coverage_blocks() ? coverage_look() != 0 : is_new_reply(&met);
 }
@@ -161,6 +170,12 @@ static void show_met(void) {
         if (lone[kind]) continue;
         failed++;
         printf("FAILED guard: no answer was %s\n", LONE[kind]);
+    }
+    for (int kind = 0; kind < DAYS; kind++) {
+        printf("  days with %s: %llu\n", DAY[kind], (unsigned long long)days[kind]);
+        if (days[kind]) continue;
+        failed++;
+        printf("FAILED guard: no day had %s\n", DAY[kind]);
     }
     uint64_t least = answered[0];
     for (int window = 1; window < FE_WINDOWS; window++) least = answered[window] < least ? answered[window] : least;

@@ -667,6 +667,328 @@ static fe_reply lone_by_falling_link(const struct asked *a) {
     return with_tree(a, by_falling_link);
 }
 
+/* ---- a limit tried on a day's bets ---- */
+
+/* What a wrong day does. */
+enum wrong_day {
+    IN_SOME_GROUP, EXACTLY_K, REFUSED_COUNTED, CUT_AT_0, LATER_ONLY, ALWAYS_ALONE, OPENING_AT_CLOSE, LAST_FROM_START, SHARED_ALONE, FIRST_GROUP_COUNTED, OWN_LINKS_ONLY,
+    ONE_PENNY_MORE, LIMIT_FORGETS, ALONE_SHOWN
+};
+
+static int64_t at_least_0(int64_t margin) {
+    return margin < 0 ? 0 : margin;
+}
+
+static int is_meant(const struct tree *t, uint32_t group, uint32_t k, enum wrong_day wrong) {
+    uint32_t parent = t->group[group].parent;
+    if (wrong == EXACTLY_K) return t->group[group].strength == k;
+    return t->group[group].strength >= k && (parent == NO_GROUP || t->group[parent].strength < k);
+}
+
+/* Whether a group holds the account. */
+static int holds(const struct tree *t, uint32_t group, uint32_t account, int own_only) {
+    for (uint32_t link = 0; link < t->link_count; link++) {
+        const uint8_t *record = t->links + 8 * (size_t)link;
+        if (two(record + 1) != account && two(record + 3) != account) continue;
+        if (own_only && t->named[link] == group) return 1;
+        for (uint32_t above = t->named[link]; above != NO_GROUP && !own_only; above = t->group[above].parent)
+            if (above == group) return 1;
+    }
+    return 0;
+}
+
+/* The day where the library has it done, tried again with one thing wrong. */
+static fe_reply wrongly(const struct asked *a, enum wrong_day wrong) {
+    enum { SUMS = 2048 + 1024 };
+    static struct tree t;
+    static int64_t sum[SUMS], met_at[SUMS];
+    static uint32_t meant[2048];
+    fe_reply reply = make_call(a);
+    if (reply.refusal) return reply;
+    read_tree(a->read.at, &t), memset(sum, 0, sizeof sum);
+    for (size_t i = 0; i < SUMS; i++) met_at[i] = -1;
+    uint32_t groups = 0;
+    size_t count = a->records.length / FE_RECORD;
+    int64_t limit = a->limit;
+    for (uint32_t group = 0; group < t.group_count; group++)
+        if (is_meant(&t, group, a->k, wrong)) meant[groups++] = group;
+    for (size_t i = 0; i < count && wrong == LAST_FROM_START; i++)
+        if (a->records.at[FE_RECORD * i]) limit = four(a->records.at + FE_RECORD * i + 5);
+    for (size_t i = 0; i < count; i++) {
+        const uint8_t *record = a->records.at + FE_RECORD * i;
+        uint32_t account = four(record + 1), amount = four(record + 5), in[2048], held = 0, room = 0;
+        if (*record) {
+            if (wrong != LAST_FROM_START) limit = amount;
+            if (wrong == LIMIT_FORGETS) memset(sum, 0, sizeof sum);
+            continue;
+        }
+        for (uint32_t g = 0; g < groups; g++)
+            if (holds(&t, meant[g], account, wrong == OWN_LINKS_ONLY)) in[held++] = g;
+        int alone = held == 0;
+        if (alone) in[held++] = 2048 + (wrong == SHARED_ALONE ? 0 : account);
+        for (uint32_t g = 0; g < held; g++) {
+            if (met_at[in[g]] < 0) met_at[in[g]] = limit;
+            room += (wrong == LATER_ONLY ? met_at[in[g]] : limit) - sum[in[g]] >= (int64_t)amount + (wrong == ONE_PENNY_MORE);
+        }
+        int taken = wrong == IN_SOME_GROUP ? room > 0 : room == held;
+        if (alone && wrong == ALWAYS_ALONE) taken = 1;
+        for (uint32_t g = 0; g < held && (taken || wrong == REFUSED_COUNTED); g++)
+            if (g == 0 || wrong != FIRST_GROUP_COUNTED) sum[in[g]] += amount;
+        a->buffer.at[i] = (uint8_t)taken;
+    }
+    for (uint32_t g = 0; g < groups && FE_MARGIN * (g + (size_t)1) <= a->margins.length; g++) {
+        int64_t at = wrong == OPENING_AT_CLOSE ? a->limit : wrong == LATER_ONLY && met_at[g] >= 0 ? met_at[g] : limit;
+        uint64_t margin = (uint64_t)(wrong == CUT_AT_0 ? at_least_0(at - sum[g]) : at - sum[g]);
+        put_four(a->margins.at + FE_MARGIN * g, (uint32_t)(margin >> 32)), put_four(a->margins.at + FE_MARGIN * g + 4, (uint32_t)margin);
+    }
+    reply.value = groups;
+    if (wrong == ALONE_SHOWN && met_at[2048] >= 0) reply.value++;
+    return reply;
+}
+
+static fe_reply some_group_has_room(const struct asked *a) {
+    return wrongly(a, IN_SOME_GROUP);
+}
+
+static fe_reply strength_just_k(const struct asked *a) {
+    return wrongly(a, EXACTLY_K);
+}
+
+static fe_reply refused_stakes_counted(const struct asked *a) {
+    return wrongly(a, REFUSED_COUNTED);
+}
+
+static fe_reply margin_cut_at_0(const struct asked *a) {
+    return wrongly(a, CUT_AT_0);
+}
+
+static fe_reply limit_for_later_groups(const struct asked *a) {
+    return wrongly(a, LATER_ONLY);
+}
+
+static fe_reply alone_always_taken(const struct asked *a) {
+    return wrongly(a, ALWAYS_ALONE);
+}
+
+static fe_reply opening_limit_at_close(const struct asked *a) {
+    return wrongly(a, OPENING_AT_CLOSE);
+}
+
+static fe_reply last_limit_from_start(const struct asked *a) {
+    return wrongly(a, LAST_FROM_START);
+}
+
+static fe_reply alone_together(const struct asked *a) {
+    return wrongly(a, SHARED_ALONE);
+}
+
+static fe_reply counted_in_first_group(const struct asked *a) {
+    return wrongly(a, FIRST_GROUP_COUNTED);
+}
+
+static fe_reply own_links_only(const struct asked *a) {
+    return wrongly(a, OWN_LINKS_ONLY);
+}
+
+static fe_reply room_for_more_than_the_stake(const struct asked *a) {
+    return wrongly(a, ONE_PENNY_MORE);
+}
+
+static fe_reply limit_forgets_stakes(const struct asked *a) {
+    return wrongly(a, LIMIT_FORGETS);
+}
+
+static fe_reply alone_shown(const struct asked *a) {
+    return wrongly(a, ALONE_SHOWN);
+}
+
+/* Whether a buffer is shorter than the records; one for no margins is taken for short too. */
+static int is_short(const struct asked *a) {
+    return a->buffer.length < a->records.length / FE_RECORD || !a->margins.length;
+}
+
+static fe_reply short_before(const struct asked *a, uint32_t refusal) {
+    fe_reply reply = make_call(a);
+    return reply.refusal == refusal && is_short(a) ? (fe_reply){12, 0, 0, 0} : reply;
+}
+
+static fe_reply short_before_outside(const struct asked *a) {
+    return short_before(a, 9);
+}
+
+static fe_reply short_before_amount(const struct asked *a) {
+    return short_before(a, 15);
+}
+
+static fe_reply short_before_too_many(const struct asked *a) {
+    return short_before(a, 16);
+}
+
+static fe_reply too_many_before_level(const struct asked *a) {
+    fe_reply reply = make_call(a);
+    return reply.refusal == 10 && a->records.length / FE_RECORD > FE_RECORDS_MAX ? (fe_reply){16, 0, 0, 0} : reply;
+}
+
+static fe_reply opening_before_level(const struct asked *a) {
+    fe_reply reply = make_call(a);
+    return reply.refusal == 10 && a->limit > FE_LIMIT_MAX ? (fe_reply){15, 0, 0, 0} : reply;
+}
+
+/* The first fault of the records where accounts and amounts are looked at in this order. */
+static fe_reply amount_before_account(const struct asked *a) {
+    fe_reply reply = make_call(a);
+    for (size_t at = 0; reply.refusal == 9 && at + FE_RECORD <= a->records.length; at += FE_RECORD) {
+        const uint8_t *record = a->records.at + at;
+        uint32_t amount = four(record + 5);
+        if (four(record + 1) >= two(a->read.at + 1) && !*record) return amount == 0 || amount > FE_STAKE_MAX ? (fe_reply){15, 0, 0, 0} : reply;
+    }
+    return reply;
+}
+
+static fe_reply account_of_a_limit(const struct asked *a) {
+    fe_reply reply = make_call(a);
+    for (size_t at = 0; reply.refusal == 0 && at + FE_RECORD <= a->records.length; at += FE_RECORD)
+        if (a->records.at[at] && four(a->records.at + at + 1) >= two(a->read.at + 1)) return (fe_reply){9, 0, 0, 0};
+    return reply;
+}
+
+/* The day with its records changed. */
+static fe_reply with_records(const struct asked *a, void change(uint8_t *record), size_t most) {
+    static uint8_t records[1 << 16];
+    struct asked other = *a;
+    if (other.records.length > most) other.records.length = most;
+    if (other.records.length) memcpy(records, a->records.at, other.records.length);
+    for (size_t at = 0; at + FE_RECORD <= other.records.length && change; at += FE_RECORD) change(records + at);
+    other.records.at = records;
+    return make_call(&other);
+}
+
+static void cut_account(uint8_t *record) {
+    record[1] = record[2] = 0;
+}
+
+static void cut_amount(uint8_t *record) {
+    record[5] = 0;
+}
+
+static void kind_of_one_bit(uint8_t *record) {
+    record[0] &= 1;
+}
+
+static fe_reply record_account_cut(const struct asked *a) {
+    return with_records(a, cut_account, SIZE_MAX);
+}
+
+static fe_reply amount_of_three_bytes(const struct asked *a) {
+    return with_records(a, cut_amount, SIZE_MAX);
+}
+
+static fe_reply even_kind_a_bet(const struct asked *a) {
+    return with_records(a, kind_of_one_bit, SIZE_MAX);
+}
+
+static fe_reply records_beyond_left_out(const struct asked *a) {
+    return with_records(a, NULL, FE_RECORD * FE_RECORDS_MAX);
+}
+
+static fe_reply most_records_refused(const struct asked *a) {
+    fe_reply reply = make_call(a);
+    return reply.refusal == 0 && a->records.length / FE_RECORD == FE_RECORDS_MAX ? (fe_reply){16, 0, 0, 0} : reply;
+}
+
+static fe_reply tail_is_15(const struct asked *a) {
+    fe_reply reply = make_call(a);
+    return reply.refusal == 0 && a->records.length % FE_RECORD ? (fe_reply){15, 0, 0, 0} : reply;
+}
+
+static fe_reply reads_past_records(const struct asked *a) {
+    if (a->records.length) look(a->records.at + a->records.length);
+    return make_call(a);
+}
+
+/* Eight bytes are read where a record's tail begins. */
+static fe_reply reads_a_cut_record(const struct asked *a) {
+    size_t tail = a->records.length % FE_RECORD;
+    if (tail) look(a->records.at + a->records.length - tail + FE_RECORD - 1);
+    return make_call(a);
+}
+
+static fe_reply writes_records(const struct asked *a) {
+    if (a->records.length) write_byte(a->records.at, look(a->records.at));
+    return make_call(a);
+}
+
+static fe_reply writes_past_margins(const struct asked *a) {
+    if (a->margins.length) flip(a->margins.at + a->margins.length);
+    return make_call(a);
+}
+
+static fe_reply writes_before_margins(const struct asked *a) {
+    if (a->margins.length) flip(a->margins.at - 1);
+    return make_call(a);
+}
+
+static fe_reply reads_empty_margins(const struct asked *a) {
+    if (!a->margins.length) look(a->margins.at);
+    return make_call(a);
+}
+
+static fe_reply writes_after_records(const struct asked *a) {
+    fe_reply reply = make_call(a);
+    size_t count = a->records.length / FE_RECORD;
+    if (reply.refusal == 0 && count < a->buffer.length) flip(a->buffer.at + count);
+    return reply;
+}
+
+static fe_reply writes_after_margins(const struct asked *a) {
+    fe_reply reply = make_call(a);
+    size_t written = FE_MARGIN * (size_t)reply.value;
+    if (reply.refusal == 0 && written < a->margins.length) flip(a->margins.at + written);
+    return reply;
+}
+
+static fe_reply refused_and_margins_changed(const struct asked *a) {
+    fe_reply reply = make_call(a);
+    if (reply.refusal && a->margins.length) flip(a->margins.at);
+    return reply;
+}
+
+/* The bytes of the records written before the margins are seen to be short. */
+static fe_reply taken_before_12(const struct asked *a) {
+    fe_reply reply = make_call(a);
+    size_t count = a->records.length / FE_RECORD;
+    if (reply.refusal == 12 && a->buffer.length >= count) memset(a->buffer.at, 1, count);
+    return reply;
+}
+
+static fe_reply sign_of_four_bytes(const struct asked *a) {
+    fe_reply reply = make_call(a);
+    for (uint32_t g = 0; reply.refusal == 0 && g < reply.value; g++) put_four(a->margins.at + FE_MARGIN * (size_t)g, 0);
+    return reply;
+}
+
+static fe_reply value_in_bytes(const struct asked *a) {
+    fe_reply reply = make_call(a);
+    if (reply.refusal == 0) reply.value *= FE_MARGIN;
+    return reply;
+}
+
+static fe_reply exact_margins_12(const struct asked *a) {
+    fe_reply reply = make_call(a);
+    return reply.refusal == 0 && reply.value && a->margins.length == FE_MARGIN * (size_t)reply.value ? (fe_reply){12, 0, 0, 0} : reply;
+}
+
+/* What was taken in the day before counts in this one. */
+static fe_reply stakes_of_the_day_before(const struct asked *a) {
+    static uint32_t before;
+    struct asked other = *a;
+    uint32_t kept = before;
+    if (kept < other.limit) other.limit -= kept;
+    fe_reply reply = make_call(&other);
+    before = reply.refusal == 0 && a->records.length >= FE_RECORD && !a->records.at[0] && a->buffer.at[0] ? four(a->records.at + 5) : 0;
+    return reply;
+}
+
 /* ---- changes ---- */
 
 /* Where the records of a done change's links end. */
@@ -950,6 +1272,61 @@ const struct planted PLANTED[] = {
     {"a lone link in F at 3", GROUP_LINKS, two_for_three},
     {"no chain from a link to itself at 2", CHAIN, none_with_itself_at_2},
     {"a chain from a lone link to itself", CHAIN, one_with_itself_at_2},
+    {"taken if some group has room", TRY_LIMIT, some_group_has_room},
+    {"groups of strength just k", TRY_LIMIT, strength_just_k},
+    {"refused stakes counted", TRY_LIMIT, refused_stakes_counted},
+    {"a margin cut off at 0", TRY_LIMIT, margin_cut_at_0},
+    {"a new limit for groups met later only", TRY_LIMIT, limit_for_later_groups},
+    {"an account in no group always taken", TRY_LIMIT, alone_always_taken},
+    {"the opening limit in the closing margin", TRY_LIMIT, opening_limit_at_close},
+    {"the last limit from the start", TRY_LIMIT, last_limit_from_start},
+    {"one sum for all accounts in no group", TRY_LIMIT, alone_together},
+    {"a stake counted in the first group only", TRY_LIMIT, counted_in_first_group},
+    {"accounts of own links only", TRY_LIMIT, own_links_only},
+    {"a margin of just the stake refused", TRY_LIMIT, room_for_more_than_the_stake},
+    {"a new limit that forgets the stakes", TRY_LIMIT, limit_forgets_stakes},
+    {"a margin for an account in no group", TRY_LIMIT, alone_shown},
+    {"the stakes of the day before", TRY_LIMIT, stakes_of_the_day_before},
+    {"12 before 9 of a record", TRY_LIMIT, short_before_outside},
+    {"12 before 15", TRY_LIMIT, short_before_amount},
+    {"12 before 16", TRY_LIMIT, short_before_too_many},
+    {"12 before 7 of a day", TRY_LIMIT, short_before_no_index},
+    {"16 before 10", TRY_LIMIT, too_many_before_level},
+    {"15 of the opening limit before 10", TRY_LIMIT, opening_before_level},
+    {"15 before 9 in one record", TRY_LIMIT, amount_before_account},
+    {"9 of a new limit", TRY_LIMIT, account_of_a_limit},
+    {"an account of a record cut to two bytes", TRY_LIMIT, record_account_cut},
+    {"an amount cut to three bytes", TRY_LIMIT, amount_of_three_bytes},
+    {"an even kind for a bet", TRY_LIMIT, even_kind_a_bet},
+    {"records beyond 4,096 left out", TRY_LIMIT, records_beyond_left_out},
+    {"4,096 records refused", TRY_LIMIT, most_records_refused},
+    {"15 for a tail", TRY_LIMIT, tail_is_15},
+    {"an index of kind 1 tried", TRY_LIMIT, kind_1_taken},
+    {"k = 2 refused in a day", TRY_LIMIT, level_2_refused},
+    {"k = 1 taken for 2 in a day", TRY_LIMIT, level_1_taken},
+    {"k = 2 taken for 3 in a day", TRY_LIMIT, three_for_two},
+    {"k cut to a byte in a day", TRY_LIMIT, level_cut},
+    {"margins in bytes for a value", TRY_LIMIT, value_in_bytes},
+    {"a second number of a day", TRY_LIMIT, second_number},
+    {"a third number of a day", TRY_LIMIT, third_number},
+    {"a sign in four bytes only", TRY_LIMIT, sign_of_four_bytes},
+    {"12 at the margins' exact length", TRY_LIMIT, exact_margins_12},
+    {"a byte past the index read by a day", TRY_LIMIT, reads_past},
+    {"an empty index read by a day", TRY_LIMIT, reads_empty},
+    {"a byte past the records read", TRY_LIMIT, reads_past_records},
+    {"a record read that is cut", TRY_LIMIT, reads_a_cut_record},
+    {"the records written with their own bytes", TRY_LIMIT, writes_records},
+    {"the index written with its own bytes by a day", TRY_LIMIT, writes_what_it_read},
+    {"an empty first buffer read", TRY_LIMIT, reads_empty_buffer},
+    {"empty margins read", TRY_LIMIT, reads_empty_margins},
+    {"a byte past the records' bytes written", TRY_LIMIT, writes_past_buffer},
+    {"a byte past the margins written", TRY_LIMIT, writes_past_margins},
+    {"a byte before the margins written", TRY_LIMIT, writes_before_margins},
+    {"a byte after the records' bytes changed", TRY_LIMIT, writes_after_records},
+    {"a byte after the margins changed", TRY_LIMIT, writes_after_margins},
+    {"the records' bytes changed by a refused day", TRY_LIMIT, refused_and_changed},
+    {"the margins changed by a refused day", TRY_LIMIT, refused_and_margins_changed},
+    {"the records' bytes written before 12 of the margins", TRY_LIMIT, taken_before_12},
     {"a byte past the links read", BUILD, reads_past},
     {"a byte before the links read", BUILD, reads_before},
     {"a byte past the index read", STRENGTH, reads_past},

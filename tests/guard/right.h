@@ -13,6 +13,14 @@ static inline void put_two(uint8_t *at, uint32_t value) {
     at[0] = (uint8_t)(value >> 8), at[1] = (uint8_t)value;
 }
 
+static inline uint32_t four(const uint8_t *at) {
+    return two(at) << 16 | two(at + 2);
+}
+
+static inline void put_four(uint8_t *at, uint32_t value) {
+    put_two(at, value >> 16), put_two(at + 2, value & 0xFFFF);
+}
+
 /* The first fault of a links file, by 1 to 6, with its place; refusal 0 if there is none. */
 fe_reply right_links(const uint8_t *file, size_t length);
 
@@ -31,6 +39,16 @@ int right_lone(const uint8_t *sorted, const uint8_t *index);
 
 /* The reply of a question that reads an index, from a window that there is, but for 12; done, `answer` has what C to G write. */
 fe_reply right_answer(const struct asked *asked, uint8_t *answer);
+
+/* What a day that was tried had, a bit each. */
+enum day {
+    SOME_ROOM, SEVERAL_TAKEN, ALONE_TAKEN, ALONE_REFUSED, JUST_ROOM, PENNY_SHORT, BELOW_ZERO_REFUSED, BELOW_ZERO, LOWERED, LONE_TAKEN, NO_RECORDS, MOST_RECORDS, TAIL,
+    LIMIT_OF_NO_ACCOUNT, OTHER_KIND, NO_MARGINS, DAYS
+};
+
+/* The reply of a limit tried on an index, but for 12; done, `taken` has a byte for each record, `margins` the closing margins, and `*met` a bit for each of what the day
+ * had. */
+fe_reply right_day(const struct asked *asked, uint8_t *taken, uint8_t *margins, uint32_t *met);
 
 /* Answers with lone links, and those at k = 2 without. */
 enum lone { B_LONE, C_LONE, C_OTHERS, C_BOTH, D_LONE, E_BOTH, F_LONE, F_OTHERS, G_LONE, G_OTHER, LONES };

@@ -4,13 +4,14 @@
 
 #include "right.h"
 
-enum { TURN_ACCOUNTS = 80, TURN_EDITS = 6, TURN_CARD = 60000, TURN_HEAD = 38, TURN_MAX = TURN_HEAD + TURN_ACCOUNTS + 6 * TURN_EDITS + TURN_CARD };
+enum { TURN_ACCOUNTS = 80, TURN_ROW = 40 * FE_RECORD, TURN_EDITS = 6, TURN_CARD = 60000, TURN_HEAD = 50 };
+enum { TURN_MAX = TURN_HEAD + TURN_ACCOUNTS + TURN_ROW + 6 * TURN_EDITS + TURN_CARD };
 
 /* How long the buffer for the result is. */
 enum room { LARGE, EXACT, ONE_LESS, ONE_MORE, EMPTY, GIVEN, ROOMS };
 
-/* Bits of `lay`: which slices begin (and do not end) at a guard page, whether empty slices are null, whether the accounts are lent inside the index. */
-enum lay { FIRST_STARTS = 1, SECOND_STARTS = 2, THIRD_STARTS = 4, DESK_STARTS = 8, NULL_IF_EMPTY = 16, ACCOUNTS_INSIDE = 32 };
+/* Bits of `lay`: which slices begin (and do not end) at a guard page, whether empty slices are null, whether the accounts or the records are lent inside the index. */
+enum lay { FIRST_STARTS = 1, SECOND_STARTS = 2, THIRD_STARTS = 4, DESK_STARTS = 8, NULL_IF_EMPTY = 16, INSIDE = 32, RECORDS_START = 64, MARGINS_START = 128 };
 
 /* A change of the bytes that the call reads. */
 enum edit_kind { SET, FLIP, INSERT, DELETE, CUT, APPEND, SWAP_RECORDS, ADD, COPY, REPEAT_RECORD, LENGTHEN, EDIT_KINDS };
@@ -27,6 +28,11 @@ struct turn {
     uint32_t tally;                   /* of the window, before the call */
     uint8_t accounts_len, edits;
     uint8_t accounts[TURN_ACCOUNTS];
+    uint32_t limit;
+    uint8_t wide;                     /* the room for the margins */
+    uint16_t given_wide;              /* if it is GIVEN */
+    uint16_t row_len, day_len;        /* the records: the bytes of the row, again and again up to so many */
+    uint8_t row[TURN_ROW];
     struct edit edit[TURN_EDITS];
     size_t card_len;
     uint8_t card[TURN_CARD];
@@ -43,6 +49,7 @@ struct met {
     size_t length; /* of what the call read */
     int reordered; /* an answer of groups in another order than the index's */
     enum lone lone;
+    uint32_t days; /* a bit for each of what a day had; 0 if it was refused */
     int other_head; /* refused by its head alone: an index under kind 1, a links file under kind 7 */
     uint32_t made; /* calls of the library, for the result and for what it must be */
 };
