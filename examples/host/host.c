@@ -1,6 +1,6 @@
 /* A host of the terminal: builds the index of card B of document 01, asks every question on it from two windows, meets every refusal, shows which window was
- * answered how often, plays an afternoon in which links come and go, reads to a customer the larger of two parties, and finds two people who are a party by themselves.
- * After `rt staticlib terminal`:
+ * answered how often, plays an afternoon in which links come and go, reads to a customer the larger of two parties, finds two people who are a party by themselves, and
+ * tries two limits on an afternoon's bets. After `rt staticlib terminal`:
  *
  *     gcc -std=c11 -O2 -Wall -Wextra -Werror -pedantic -Iinclude examples/host/host.c target/staticlib/libterminal.a -o target/host && target/host
  *
@@ -33,13 +33,20 @@ enum { PAYOUTS = 3, DISPUTES = 17 };
 /* Accounts as questions name them, two bytes each. */
 static const uint8_t ZERO[] = {0, 0}, TWO[] = {0, 2}, THREE[] = {0, 3}, TWO_AND_FOUR[] = {0, 2, 0, 4}, SEVEN[] = {0, 7};
 
+/* An afternoon's bets in pence, as management tries limits on them: three, a new limit, two more. */
+static const struct {
+    uint8_t kind; /* 0: a bet; 1: a new limit, whose account is not looked at */
+    uint32_t account, pence;
+} AFTERNOON[] = {{0, 2, 4000}, {0, 0, 3000}, {0, 5, 5000}, {1, 0, 7000}, {0, 1, 2000}, {0, 4, 1000}};
+enum { RECORDS = sizeof AFTERNOON / sizeof *AFTERNOON };
+
 /* Two buffers for the index: a change goes from the one in use into the other. */
 static uint8_t buffers[2][FE_INDEX_MAX], *index_bytes = buffers[0], *second = buffers[1];
 static size_t length;
 static uint8_t answer[FE_CHAIN_MAX], desk[FE_DESK];
 
 /* Who can put a refusal right, and its reason. */
-static const char *const WHY[15][2] = {
+static const char *const WHY[17][2] = {
     {"", ""},
     {"filer of links", "an unknown or misplaced kind, a cut record, or bytes after the end"},
     {"filer of links", "the number of accounts is 0 or above 1,024"},
@@ -55,6 +62,8 @@ static const char *const WHY[15][2] = {
     {"host", "the result is longer than the buffer lent for it, or the desk record is below 128 bytes"},
     {"host", "the window is above 31"},
     {"filer of links", "the pair is there already"},
+    {"manager", "a stake is 0 or above 1,000,000 pence, or a limit is above 1,000,000,000"},
+    {"manager", "there are more than 4,096 records"},
 };
 
 static unsigned two(const uint8_t *at) { return at[0] * 256u + at[1]; }
@@ -197,6 +206,53 @@ static void two_people(void) {
     tallies();
 }
 
+static void put_four(uint8_t *at, uint32_t value) {
+    for (int i = 3; i >= 0; i--, value >>= 8) at[i] = (uint8_t)value;
+}
+
+/* A margin: eight bytes, two's complement. */
+static long long margin(const uint8_t *at) {
+    uint64_t bits = 0;
+    for (int i = 0; i < FE_MARGIN; i++) bits = bits << 8 | at[i];
+    return (int64_t)bits;
+}
+
+/* Under this limit at the start, at 2: what is taken, and what is left to each group at the close. Every group that holds the account has to have room for the stake. */
+static void try_limit(const char *text, uint32_t limit) {
+    static uint8_t records[RECORDS * FE_RECORD], taken[RECORDS], margins[16 * FE_MARGIN];
+    for (size_t i = 0; i < RECORDS; i++) {
+        uint8_t *record = records + FE_RECORD * i;
+        record[0] = AFTERNOON[i].kind, put_four(record + 1, AFTERNOON[i].account), put_four(record + 5, AFTERNOON[i].pence);
+    }
+    fe_reply r = fe_try_limit(index_bytes, length, records, sizeof records, 2, limit, taken, sizeof taken, margins, sizeof margins);
+    if (r.refusal) {
+        refused(r);
+        return;
+    }
+    printf("%s, %u pence:\n", text, limit);
+    for (size_t i = 0; i < RECORDS; i++) {
+        if (AFTERNOON[i].kind) printf("  the limit is %u from here on\n", AFTERNOON[i].pence);
+        else printf("  account %u bets %u: %s\n", AFTERNOON[i].account, AFTERNOON[i].pence, taken[i] ? "taken" : "turned back");
+    }
+    printf("  left to each group at the close:");
+    for (uint32_t group = 0; group < r.value; group++) printf(" %lld", margin(margins + FE_MARGIN * group));
+    printf("\n");
+}
+
+/* Before a meeting, management tries a tight limit and a loose one. Accounts 0, 2 and 5 are in two groups each, and their bets count in both. Under the tight one two early
+ * bets are turned back, and the late ones find room. Under the loose one they are taken, so the new limit is below what two groups have taken: their margins
+ * are below zero, and the late bets are turned back. It is no question, and no tally moves. */
+static void two_limits(void) {
+    static uint8_t records[(FE_RECORDS_MAX + 1) * FE_RECORD], taken[FE_RECORDS_MAX], margins[16 * FE_MARGIN];
+    list("Groups at 2 with account 2", fe_groups_at(index_bytes, length, TWO, sizeof TWO, 2, answer, sizeof answer, PAYOUTS, desk, sizeof desk), 0);
+    try_limit("A tight limit", 6000);
+    try_limit("A loose limit", 12000);
+    refused(fe_try_limit(index_bytes, length, records, FE_RECORD, 2, 6000, taken, sizeof taken, margins, sizeof margins)); /* a stake of 0 */
+    refused(fe_try_limit(index_bytes, length, records, sizeof records, 2, 6000, taken, sizeof taken, margins, sizeof margins));
+    refused(fe_try_limit(index_bytes, length, records, 0, 2, 6000, taken, sizeof taken, margins, 23)); /* three margins take 24 bytes */
+    tallies();
+}
+
 int main(void) {
     fe_reply r = fe_build(CARD, sizeof CARD, index_bytes, FE_INDEX_MAX);
     if (r.refusal) {
@@ -249,5 +305,6 @@ int main(void) {
     afternoon();
     larger_party();
     two_people();
+    two_limits();
     return 0;
 }
