@@ -1,7 +1,7 @@
-//! Times the library's build and reading beside the reference's fast build, from links file to index bytes (and back), and the questions and changes beside the
-//! library's build, in one run: bench CARDS [IGRAPH]
+//! Times the library's build and reading beside the reference's fast build, from links file to index bytes (and back), and the questions, changes and limits tried
+//! beside the library's build, in one run: bench CARDS [IGRAPH]
 //!
-//! CARDS is a folder of links files, IGRAPH the program made of igraph_truss.c. Prints three tables with empty lines between them. A time is the least of many
+//! CARDS is a folder of links files, IGRAPH the program made of igraph_truss.c. Prints four tables with empty lines between them. A time is the least of many
 //! turns; the calls take turns, so that all meet the same machine. igraph computes strengths only: no forest, no groups, no bytes.
 
 use std::cmp::Reverse;
@@ -13,9 +13,12 @@ use std::time::{Duration, Instant};
 
 use reference::index::{Index, StrongLink};
 use reference::net::Net;
+use reference::random::Random;
 use reference::records::two;
 use reference::rules::{Rules, MAX_ACCOUNTS, MAX_NAMED};
-use terminal::{Change, Question, ANSWER_MAX, DESK, INDEX_MAX};
+use terminal::{
+    Change, Question, Trial, ANSWER_MAX, DESK, INDEX_MAX, LIMIT_MAX, MARGIN, RECORDS_MAX,
+};
 
 const TURNS: usize = 3_000;
 
@@ -44,6 +47,14 @@ impl Least {
 /// A question, what the table says of its answer, and its least time.
 struct Asked {
     question: Question,
+    note: String,
+    least: Least,
+}
+
+/// A limit tried on a day, what the table says of it, and its least time.
+struct Tried {
+    trial: Trial,
+    records: Vec<u8>,
     note: String,
     least: Least,
 }
@@ -216,6 +227,45 @@ fn changes(index: &[u8]) -> [(Change, Vec<u8>); 2] {
     ]
 }
 
+/// As many bets as there may be, all of them taken, so that each counts in every group of its account: of accounts drawn at random, at 3; of the account that is in
+/// the most groups at 3; of the one in the most at 2.
+fn days(index: &Index) -> [Tried; 3] {
+    let most = |k: u16| {
+        let mut groups_of = vec![BTreeSet::new(); index.accounts.into()];
+        for (number, link) in index.links.iter().enumerate() {
+            for account in [link.lower, link.higher] {
+                groups_of[usize::from(account)].extend(index.group_at(number, k));
+            }
+        }
+        let of = (0..).zip(&groups_of).max_by_key(|(_, of)| of.len());
+        let (account, of): (u32, _) = of.expect("an account");
+        (account, of.len())
+    };
+    let day = |k: u32, note: String, mut account: Box<dyn FnMut() -> u32>| {
+        let mut bet = || [&[0][..], &account().to_be_bytes(), &1_u32.to_be_bytes()].concat();
+        Tried {
+            trial: Trial {
+                k,
+                limit: LIMIT_MAX,
+            },
+            records: (0..RECORDS_MAX).flat_map(|_| bet()).collect(),
+            note,
+            least: Least(Duration::MAX),
+        }
+    };
+    let (mut random, accounts) = (Random::new(8), index.accounts.into());
+    let [(at_3, groups_at_3), (at_2, groups_at_2)] = [most(3), most(2)];
+    [
+        day(
+            3,
+            String::new(),
+            Box::new(move || random.below(accounts) as u32),
+        ),
+        day(3, format!(" ({groups_at_3})"), Box::new(move || at_3)),
+        day(2, format!(" ({groups_at_2})"), Box::new(move || at_2)),
+    ]
+}
+
 fn main() {
     let mut words = std::env::args().skip(1);
     let folder = words.next().expect("a folder of links files");
@@ -226,7 +276,7 @@ fn main() {
 
     println!("| card | accounts | links | greatest strength | build, us | read, us | reference's build, us | build / reference | read / reference | igraph strengths, us |");
     println!("|---|---|---|---|---|---|---|---|---|---|");
-    let (mut asked, mut changed) = (String::new(), String::new());
+    let [mut asked, mut changed, mut tried] = [const { String::new() }; 3];
     for card in &cards {
         let file = std::fs::read(card).expect("a links file");
         let (mut ours, mut theirs) = ([0; INDEX_MAX], [0; INDEX_MAX]);
@@ -271,6 +321,17 @@ fn main() {
         let changes = changes(index);
         let mut altered = [0; INDEX_MAX];
 
+        let mut days = days(&Index::read(RULES, index).expect("an index"));
+        let (mut taken, mut margins) = ([0; RECORDS_MAX], vec![0; MARGIN * 2_048]);
+        for day in &days {
+            let Tried { trial, records, .. } = day;
+            let reply = terminal::try_limit(*trial, index, records, &mut taken, &mut margins);
+            assert!(
+                reply.refusal == 0 && taken == [1; RECORDS_MAX],
+                "a bet is refused"
+            );
+        }
+
         let mut library = Least(Duration::MAX);
         let mut reading = Least(Duration::MAX);
         let mut reference = Least(Duration::MAX);
@@ -288,6 +349,11 @@ fn main() {
             }
             for ((change, index), least) in changes.iter().zip(&mut changing) {
                 least.time(|| terminal::change(black_box(*change), index, &mut altered));
+            }
+            for day in &mut days {
+                let (trial, records) = (day.trial, black_box(&day.records));
+                day.least
+                    .time(|| terminal::try_limit(trial, index, records, &mut taken, &mut margins));
             }
         }
         let igraph = peer.as_deref().and_then(|program| igraph(program, card));
@@ -313,9 +379,15 @@ fn main() {
         for least in &changing {
             changed += &format!(" {:.2} |", least.micros() / library.micros());
         }
+        tried += &format!("\n| {name} |");
+        for Tried { note, least, .. } in &days {
+            tried += &format!(" {:.2}{note} |", least.micros() / library.micros());
+        }
     }
     println!("\n| card | A / build, last link | A / build, most links | B / build | C / build | D / build | E / build | F / build | G / build, longest | G / build, middle |");
     println!("|---|---|---|---|---|---|---|---|---|---|{asked}");
     println!("\n| card | put in / build | withdraw / build |");
     println!("|---|---|---|{changed}");
+    println!("\n| card | random accounts at 3 / build | most groups at 3 / build | most groups at 2 / build |");
+    println!("|---|---|---|---|{tried}");
 }
