@@ -1,4 +1,4 @@
 -- A limit tried on a day's bets: what the calls promise; records as a slice of structs.
-pub mod Trial
 pub mod Row
 pub mod Limit
+pub mod Closing

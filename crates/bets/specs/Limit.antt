@@ -1,10 +1,10 @@
 -- What a trial of a limit promises: of a row of bytes, and of records as they are lent. Assumes nothing.
-use mathlib.Core.Path.{_≡_, refl, sym, ap, _∙_, subst}
+use mathlib.Core.Path.{_≡_, refl, sym, ap, _∙_}
 use mathlib.Core.Logic.{_⊎_, inl, inr}
 use mathlib.Core.Bool.{cond, _||_}
 use mathlib.Core.List.{List, [], _∷_, _++_, map}
 use Prim.Native.Nat.{ℕ, zero, suc, _+_, _*_, _/_, _%_, _≤_, _<_, min}
-use native.Mathlib.Nat.{min-le-left, min-le-right, suc-add, suc-mul}
+use native.Mathlib.Nat.{min-le-left, min-le-right, suc-add}
 use native.Mathlib.Omega.{arith}
 use lib.Dec.{eqb, ltb}
 use lib.ListN.{length, getD, take, length-map}
@@ -12,7 +12,7 @@ use lib.Seq.{take-all, take-at, length-take-le, ext-getD}
 use lib.IntN.{ℤ}
 use borrow.Author.Tests.{lt-ltb}
 use Rattle.truss.specs.Limits.{maxRecords, recordLength}
-use Rattle.truss.specs.Lists.{concatMap, range}
+use Rattle.truss.specs.Lists.{concatMap}
 use Rattle.truss.specs.Graph.{Graph}
 use Rattle.truss.specs.Refusal.{Checked, passed, refused, refuse, refuseIf, andThen}
 use Rattle.truss.specs.Record.{byteAt}
@@ -23,11 +23,11 @@ use Rattle.truss.specs.Trial.{noRecord}
 use Rattle.laws.proofs.Numbers.{less-or-not}
 use Rattle.laws.proofs.Sets.{map-at}
 use Rattle.columns.specs.Columns.{entryBound}
-use Rattle.columns.specs.Wiping.{zeros, zeros-length}
+use Rattle.columns.specs.Wiping.{zeros}
 use Rattle.wire.specs.Writing.{written, written-start}
 use Rattle.index.specs.declared.Reply.{Reply}
 use Rattle.day.specs.Records.{records-length, record-here}
-use Rattle.bets.specs.Trial.{triedIn}
+use Rattle.trial.specs.Trial.{triedIn}
 use Rattle.bets.specs.Row.{betBytes, rowOf, rowOf-length, noBet}
 use Rattle.bets.specs.declared.Bet.{Bet}
 

@@ -1,7 +1,7 @@
 -- The records of a day as one row of bytes, nine to a record. Assumes nothing.
-use mathlib.Core.Path.{_≡_, refl, ap, _∙_}
-use mathlib.Core.List.{List, [], _∷_, _++_, append-nil}
-use Prim.Native.Nat.{ℕ, zero, suc, _+_, _*_, _/_, _-_, _≤_, _<_}
+use mathlib.Core.Path.{_≡_, refl, _∙_}
+use mathlib.Core.List.{List, [], _∷_, _++_}
+use Prim.Native.Nat.{ℕ, zero, suc, _+_, _*_, _-_, _≤_, _<_}
 use native.Mathlib.Numerals.{add-one}
 use native.Mathlib.Omega.{arith}
 use lib.ListN.{length, take, getD, drop, length-append}
@@ -9,6 +9,7 @@ use lib.Seq.{take-suc}
 use Rattle.truss.specs.Lists.{concatMap}
 use Rattle.truss.specs.Limits.{recordLength}
 use Rattle.truss.specs.Bets.{wideField}
+use Rattle.laws.proofs.Members.{concatMap-last}
 use Rattle.wire.specs.Writing.{written, written-none, written-then, written-part}
 use Rattle.bets.specs.declared.Bet.{Bet}
 
@@ -26,14 +27,9 @@ noBet = record { kind = 0; account = 0; amount = 0 }
 
 -- ---- laws
 
-concat-more : (xs : List Bet) (x : Bet) → concatMap betBytes (xs ++ (x ∷ [])) ≡ concatMap betBytes xs ++ betBytes x
-unfolding concatMap
-concat-more [] x = append-nil (betBytes x)
-concat-more (y ∷ xs) x = ap (λ (bs : List ℕ). betBytes y ++ bs) (concat-more xs x)
-
 rowOf-more : (bs : List Bet) (i : ℕ) → i < length bs → rowOf (i + 1) bs ≡ rowOf i bs ++ betBytes (getD bs i noBet)
 unfolding rowOf
-rowOf-more bs i l = rw (add-one, take-suc bs i noBet l) (concat-more (take i bs) (getD bs i noBet))
+rowOf-more bs i l = rw (add-one, take-suc bs i noBet l) (concatMap-last betBytes (take i bs) (getD bs i noBet))
 
 pub rowOf-length : (n : ℕ) (bs : List Bet) → n ≤ length bs → length (rowOf n bs) ≡ recordLength * n
 unfolding rowOf concatMap

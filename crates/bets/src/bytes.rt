@@ -1,12 +1,12 @@
 // A limit tried from C: records and margins as bytes.
-ghost use Rattle.bets.specs.Trial.{BytesGives};
-use crate::trial::try_bytes_of;
+ghost use Rattle.trial.specs.Trial.{BytesGives};
 use columns::COLUMNS;
 use columns::room;
 use index::Reply;
 use index::answered;
 use index::open::Opening;
 use index::open::open;
+use trial::try_bytes_of;
 
 // A limit tried on a row of records: the number of margins written, or the first refusal of 7, 10, 16, 15, 9, 15, 12 with place 0. What is lent stays after the results, and all of it
 // on a refusal.

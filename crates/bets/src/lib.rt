@@ -8,7 +8,6 @@ ghost use Rattle.columns.specs.Wiping.{zeros};
 ghost use Rattle.wire.specs.Writing.{written};
 ghost use Rattle.bets.specs.Row.{betBytes, rowOf};
 ghost use Rattle.bets.specs.Limit.{LimitGives, RowGives, rowLength};
-use crate::trial::try_of;
 use columns::COLUMNS;
 use columns::room;
 use index::Reply;
@@ -17,10 +16,10 @@ use index::open::Opening;
 use index::open::open;
 use limits::MOST_RECORDS;
 use limits::RECORD_BYTES;
+use trial::try_of;
 use wire::paste;
 
 pub mod bytes;
-mod trial;
 
 // The most records that are looked at: one more than are taken, so that too many are seen to be.
 const MOST_BETS: usize = MOST_RECORDS + 1;

@@ -12,7 +12,7 @@ use lib.Seq.{drop-cons, drop-length}
 use borrow.Author.Tests.{eq-eqb, ne-eqb, lt-ltb, le-ltb, le-leb, lt-leb, ltb-false, leb-false}
 use Rattle.truss.specs.Limits.{maxRecords, minStake, maxStake, maxLimit, recordLength}
 use Rattle.truss.specs.Graph.{Graph}
-use Rattle.truss.specs.Refusal.{Checked, passed, refuse, refuseIf}
+use Rattle.truss.specs.Refusal.{passed, refuse}
 use Rattle.truss.specs.Question.{badLevel}
 use Rattle.truss.specs.Record.{byteAt}
 use Rattle.truss.specs.Bets.{DayRecord, bet, new-limit, wideAt, recordAt, recordsIn, Day, dayOf, checkRecords, checkDay}

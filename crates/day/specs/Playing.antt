@@ -8,7 +8,7 @@ use Prim.Native.Nat.{ℕ, _+_, _*_, _/_, _≤_, _<_}
 use native.Mathlib.Omega.{arith}
 use lib.Dec.{eqb, leb}
 use lib.ListN.{length, getD, take, set, length-set}
-use lib.Seq.{getD-set-same, getD-set-other, take-all, take-length}
+use lib.Seq.{getD-set-same, getD-set-other, take-all}
 use borrow.Author.Tests.{eq-eqb, ne-eqb, le-leb, lt-leb}
 use Rattle.truss.specs.Limits.{maxAccounts, maxRecords, maxLinks, recordLength}
 use Rattle.truss.specs.Graph.{Graph}
@@ -21,11 +21,11 @@ use Rattle.laws.proofs.Members.{in-getD}
 use Rattle.laws.proofs.Numbers.{same-or-not}
 use Rattle.laws.proofs.Stored.{groupCount, stored}
 use Rattle.laws.proofs.Bets.{dayBytes, bytes-length, byte-here, byte-limit, byte-alone, byte-room, byte-full, limit-bet, limit-new, stakes-bet, stakes-limit, group-numbered, level-of}
-use Rattle.columns.specs.Columns.{cell, entry, COLUMNS, linkBound, entryBound}
+use Rattle.columns.specs.Columns.{cell, entry, COLUMNS, entryBound}
 use Rattle.wire.specs.Writing.{written, written-none, written-byte}
 use Rattle.pools.specs.Pools.{Row}
 use Rattle.day.specs.Records.{InRow, records-length, record-here}
-use Rattle.day.specs.Sums.{SUM, RowSafe, Charged, HeldGives, takes, fills, BetGives, held, alone, alone-full, TurnAsks, TurnGives, is-limit, is-bet}
+use Rattle.day.specs.Sums.{SUM, RowSafe, HeldGives, takes, fills, held, alone, alone-full, TurnAsks, TurnGives, is-limit, is-bet}
 
 -- no group at k holds the account
 abbrev pub InNone : Graph → ℕ → ℕ → Type 0

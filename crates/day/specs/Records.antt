@@ -9,7 +9,7 @@ use lib.ListN.{length, getD, length-map}
 use Rattle.truss.specs.Limits.{maxRecords, recordLength}
 use Rattle.truss.specs.Lists.{range}
 use Rattle.truss.specs.Record.{byteAt}
-use Rattle.truss.specs.Bets.{DayRecord, bet, new-limit, wideAt, recordAt, recordsIn}
+use Rattle.truss.specs.Bets.{bet, new-limit, wideAt, recordAt, recordsIn}
 use Rattle.truss.specs.Trial.{noRecord}
 use Rattle.laws.proofs.Members.{range-length}
 use Rattle.laws.proofs.Sets.{map-range-at}

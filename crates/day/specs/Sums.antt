@@ -7,8 +7,8 @@ use Prim.Native.Nat.{ℕ, _+_, _*_, _≤_, _<_}
 use native.Mathlib.Omega.{arith}
 use lib.ListN.{length, getD, set, length-set}
 use Rattle.truss.specs.Limits.{maxAccounts, recordLength}
-use Rattle.truss.specs.Bets.{bet, new-limit, wideAt, recordAt}
-use Rattle.laws.proofs.Numbers.{same-or-not, less-or-not}
+use Rattle.truss.specs.Bets.{bet, new-limit, recordAt}
+use Rattle.laws.proofs.Numbers.{same-or-not}
 use Rattle.columns.specs.Columns.{cell, entry, store, COLUMNS, linkBound, entryBound}
 use Rattle.columns.specs.Laws.{stored, kept-entry, kept-column, length-store, entry-kept}
 

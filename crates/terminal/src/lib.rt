@@ -6,7 +6,7 @@ ghost use Rattle.index.specs.Build.{BuildGives};
 ghost use Rattle.index.specs.Read.{ReadGives};
 ghost use Rattle.desk.specs.DeskBytes.{AskBytesGives};
 ghost use Rattle.changes.specs.Calls.{ChangeGives};
-ghost use Rattle.bets.specs.Trial.{BytesGives};
+ghost use Rattle.trial.specs.Trial.{BytesGives};
 use desk::ask_bytes;
 use desk::ask_number;
 use index::Reply;

@@ -8,7 +8,7 @@ use Rattle.truss.specs.Limits.{recordLength}
 use Rattle.truss.specs.Bets.{recordsIn}
 use Rattle.index.specs.Open.{index-links, opened-is, not-opened, opened-blank}
 use Rattle.stored.specs.Rows.{graphIn, opened-shape, opened-graph}
-use Rattle.bets.specs.Trial.{numbers-7, numbers-of}
+use Rattle.trial.specs.Trial.{numbers-7, numbers-of}
 use borrow.Author.Needs.{needs}
 use Rattle.bets.proofs.try_row.Statement.{statement}
 use Rattle.bets.proofs.try_row.Tie as tie
@@ -59,7 +59,7 @@ same-length-2 : tie.Need-same-length-2
 same-length-2 c = search needs
 
 returns-2 : tie.Need-returns-2
-returns-2 c = numbers-of (c .before .before .before .before .before .before .before .before .before .before .before .before .before .before .before .before .before .before .before .before .args .index .now) (c .before .before .before .before .before .before .before .before .before .before .before .before .before .before .before .before .before .before .before .before .args .k) (c .before .before .before .before .before .before .before .before .before .before .before .before .before .before .before .before .before .before .before .before .args .limit) (c .before .before .before .before .before .before .before .before .before .before .before .before .before .before .before .before .before .before .before .before .args .taken .now) (recordsIn (take (recordLength * c .before .before .before .before .before .before .before .before .before .before .before .before .before .before .before .before .before .before .before .before .args .count) (c .before .before .before .before .before .before .before .before .before .before .before .before .before .before .before .before .before .before .before .before .args .row .now))) (c .before .before .before .before .before .before .before .before .before .before .before .before .before .before .before .before .before .before .before .before .args .margins .now) (opened-graph (opened-is _ (c .before .before .before .before .before .before .before .before .before .before .before .before .before .before .«open» .ensures .0) (c .before .before .before .before .before .before .before .before .before .before .before .o .given .1))) (c .before .before .before .before .try-of .ensures)
+returns-2 c = numbers-of (c .before .before .before .before .before .before .before .before .before .before .before .before .before .before .before .before .before .before .before .before .args .index .now) (c .before .before .before .before .before .before .before .before .before .before .before .before .before .before .before .before .before .before .before .before .args .k) (c .before .before .before .before .before .before .before .before .before .before .before .before .before .before .before .before .before .before .before .before .args .limit) (c .before .before .before .before .before .before .before .before .before .before .before .before .before .before .before .before .before .before .before .before .args .taken .now) (recordsIn (take (recordLength * c .before .before .before .before .before .before .before .before .before .before .before .before .before .before .before .before .before .before .before .before .args .count) (c .before .before .before .before .before .before .before .before .before .before .before .before .before .before .before .before .before .before .before .before .args .row .now))) (c .before .before .before .before .before .before .before .before .before .before .before .before .before .before .before .before .before .before .before .before .args .margins .now) (opened-graph (opened-is _ (c .before .before .before .before .before .before .before .before .before .before .before .before .before .before .«open» .ensures .0) (c .before .before .before .before .before .before .before .before .before .before .before .o .given .1))) (c .before .before .before .before .try-of .ensures .0)
 
 pub try-row-spec : {M : Type 1} → statement M
 try-row-spec =

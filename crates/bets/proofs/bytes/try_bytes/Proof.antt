@@ -4,7 +4,7 @@ use native.Mathlib.Omega.{arith}
 use lib.Seq.{length-take-le}
 use Rattle.index.specs.Open.{index-links, opened-is, not-opened, opened-blank}
 use Rattle.stored.specs.Rows.{graphIn, opened-shape, opened-graph}
-use Rattle.bets.specs.Trial.{bytes-7, bytes-of}
+use Rattle.trial.specs.Trial.{bytes-7, bytes-of}
 use borrow.Author.Needs.{needs}
 use Rattle.bets.proofs.bytes.try_bytes.Statement.{statement}
 use Rattle.bets.proofs.bytes.try_bytes.Tie as tie
@@ -49,7 +49,7 @@ same-length-2 : tie.Need-same-length-2
 same-length-2 c = search needs
 
 returns-2 : tie.Need-returns-2
-returns-2 c = bytes-of (c .before .before .before .before .before .before .before .before .before .before .before .before .before .before .before .before .before .before .before .before .before .args .index .now) (c .before .before .before .before .before .before .before .before .before .before .before .before .before .before .before .before .before .before .before .before .before .args .k) (c .before .before .before .before .before .before .before .before .before .before .before .before .before .before .before .before .before .before .before .before .before .args .limit) (c .before .before .before .before .before .before .before .before .before .before .before .before .before .before .before .before .before .before .before .before .before .args .taken .now) (c .before .before .before .before .before .before .before .before .before .before .before .before .before .before .before .before .before .before .before .before .before .args .records .now) (c .before .before .before .before .before .before .before .before .before .before .before .before .before .before .before .before .before .before .before .before .before .args .margins .now) (opened-graph (opened-is _ (c .before .before .before .before .before .before .before .before .before .before .before .before .before .before .«open» .ensures .0) (c .before .before .before .before .before .before .before .before .before .before .before .o .given .1))) (c .before .before .before .before .before .try-bytes-of .ensures)
+returns-2 c = bytes-of (c .before .before .before .before .before .before .before .before .before .before .before .before .before .before .before .before .before .before .before .before .before .args .index .now) (c .before .before .before .before .before .before .before .before .before .before .before .before .before .before .before .before .before .before .before .before .before .args .k) (c .before .before .before .before .before .before .before .before .before .before .before .before .before .before .before .before .before .before .before .before .before .args .limit) (c .before .before .before .before .before .before .before .before .before .before .before .before .before .before .before .before .before .before .before .before .before .args .taken .now) (c .before .before .before .before .before .before .before .before .before .before .before .before .before .before .before .before .before .before .before .before .before .args .records .now) (c .before .before .before .before .before .before .before .before .before .before .before .before .before .before .before .before .before .before .before .before .before .args .margins .now) (opened-graph (opened-is _ (c .before .before .before .before .before .before .before .before .before .before .before .before .before .before .«open» .ensures .0) (c .before .before .before .before .before .before .before .before .before .before .before .o .given .1))) (c .before .before .before .before .before .try-bytes-of .ensures .0)
 
 pub try-bytes-spec : {M : Type 1} → statement M
 try-bytes-spec =

@@ -1,11 +1,11 @@
--- `bets::trial::close` meets its contract. Assumes nothing.
+-- `trial::close` meets its contract. Assumes nothing.
 use native.Mathlib.Omega.{arith}
 use mathlib.Core.Path.{sym}
 use lib.Seq.{length-take-le}
-use Rattle.bets.specs.Trial.{few-n}
+use Rattle.trial.specs.Trial.{few-n}
 use borrow.Author.Needs.{needs}
-use Rattle.bets.proofs.trial.close.Statement.{statement}
-use Rattle.bets.proofs.trial.close.Tie as tie
+use Rattle.trial.proofs.close.Statement.{statement}
+use Rattle.trial.proofs.close.Tie as tie
 
 account-room-requires : tie.Need-account-room-requires
 account-room-requires c κs = search needs

@@ -7,7 +7,7 @@ ghost use Rattle.truss.specs.Bets.{recordsIn};
 ghost use Rattle.columns.specs.Columns.{entryBound, COLUMNS};
 ghost use Rattle.columns.specs.Wiping.{zeros};
 ghost use Rattle.stored.specs.Rows.{graphIn, Outlined};
-ghost use Rattle.bets.specs.Trial.{BytesOf, CloseAsks, CloseGives, InGives, NumbersOf};
+ghost use Rattle.trial.specs.Trial.{BytesOf, CloseAsks, CloseGives, InGives, NumbersOf};
 use columns::account_room;
 use day::check::day_fault;
 use day::play::play;
@@ -152,6 +152,7 @@ pub fn try_of(
     requires { ⌜ now w ≡ zeros (COLUMNS * o .m) ⌝ }
     requires { ⌜ opening < entryBound ⌝ }
     ensures { λ r. ⌜ NumbersOf (graphIn (now (s .entry))) (recordsIn (now (records .entry))) k opening (now (taken .entry)) (now (margins .entry)) r (now (taken .exit)) (now (margins .exit)) ⌝ }
+    ensures { λ _. ⌜ length (now (w .exit)) ≡ length (now (w .entry)) ⌝ }
 {
     let t = try_in(s, o, records, k, opening, taken, margins.len(), w);
     let refusal = t.refusal;
@@ -178,6 +179,7 @@ pub fn try_bytes_of(
     requires { ⌜ now w ≡ zeros (COLUMNS * o .m) ⌝ }
     requires { ⌜ opening < entryBound ⌝ }
     ensures { λ r. ⌜ BytesOf (graphIn (now (s .entry))) (recordsIn (now (records .entry))) k opening (now (taken .entry)) (now (margins .entry)) r (now (taken .exit)) (now (margins .exit)) ⌝ }
+    ensures { λ _. ⌜ length (now (w .exit)) ≡ length (now (w .entry)) ⌝ }
 {
     let room = margins.len() / MARGIN_BYTES;
     let t = try_in(s, o, records, k, opening, taken, room, w);

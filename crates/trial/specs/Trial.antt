@@ -1,29 +1,28 @@
 -- A day tried on an index: what the calls promise, and the ways to it. Assumes nothing.
-use mathlib.Core.Path.{_≡_, refl, sym, ap, ap₂, _∙_, subst}
+use mathlib.Core.Path.{_≡_, refl, sym, ap, ap₂, _∙_}
 use mathlib.Core.Logic.{_⊎_, inl, inr, _≢_}
-use mathlib.Core.Bool.{Bool, true, false, cond, _||_}
-use mathlib.Core.List.{List, [], _∷_, _++_, map}
-use Prim.Native.Nat.{ℕ, suc, _+_, _*_, _/_, _-_, _≤_, _<_}
+use mathlib.Core.Bool.{Bool, true, false, _||_}
+use mathlib.Core.List.{List}
+use Prim.Native.Nat.{ℕ, _+_, _*_, _/_, _-_, _≤_, _<_}
 use native.Mathlib.Omega.{arith}
-use lib.Dec.{eqb, ltb, leb}
+use lib.Dec.{eqb, ltb}
 use lib.ListN.{length, getD, length-map}
 use lib.Seq.{ext-getD}
 use lib.IntN.{ℤ, pos, _-ℤ_}
-use borrow.Author.Tests.{lt-ltb, le-ltb, le-leb, ltb-false, leb-false, eqb-true, eq-eqb}
+use borrow.Author.Tests.{lt-ltb, le-ltb, ltb-false}
 use Rattle.truss.specs.Limits.{maxAccounts, maxLinks, maxRecords, minLevel, maxLevel, recordLength, marginLength}
 use Rattle.truss.specs.Lists.{filter, range, concatMap}
 use Rattle.truss.specs.Graph.{Graph}
 use Rattle.truss.specs.Group.{Group, groups}
 use Rattle.truss.specs.Refusal.{Checked, passed, refused, refuse, refuseIf, andThen}
 use Rattle.truss.specs.IndexFile.{readIndex}
-use Rattle.truss.specs.Question.{isGroupAt, holds, badLevel, emptyGroup, numbersOf}
+use Rattle.truss.specs.Question.{isGroupAt, holds, emptyGroup, numbersOf}
 use Rattle.truss.specs.Call.{Reply, done, overwrite}
-use Rattle.truss.specs.Bets.{DayRecord, bet, new-limit, limitAfter, stakesTaken, marginOf, groupsOf, Day, dayOf, checkDay, checkedDay, Tried, settleDay, tryLimit, recordAt, recordsIn, marginBytes, tryLimitBytes}
-use Rattle.laws.proofs.Lists.{test, true-not-false, or-left-false}
-use Rattle.laws.proofs.Members.{getD-in, range-in, range-length}
+use Rattle.truss.specs.Bets.{DayRecord, bet, limitAfter, stakesTaken, marginOf, groupsOf, Day, dayOf, checkDay, checkedDay, Tried, settleDay, tryLimit, recordAt, recordsIn, marginBytes, tryLimitBytes}
+use Rattle.laws.proofs.Lists.{or-left-false}
+use Rattle.laws.proofs.Members.{getD-in, range-in}
 use Rattle.laws.proofs.Answers.{numbers-in}
 use Rattle.laws.proofs.Sets.{filter-same, map-range-at, map-at}
-use Rattle.laws.proofs.Groups.{size}
 use Rattle.laws.proofs.Stored.{groupCount, stored}
 use Rattle.laws.proofs.Bets.{dayBytes, bytes-length, groups-by-number}
 use Rattle.columns.specs.Columns.{cell, entry, entryBound, linkBound, COLUMNS}
@@ -33,13 +32,13 @@ use Rattle.wire.specs.Writing.{written, written-start, written-length}
 use Rattle.index.specs.declared.Reply.{Reply as CReply}
 use Rattle.index.specs.declared.open.Outline.{Outline}
 use Rattle.index.specs.Build.{Replies, replyIn, reply-same}
-use Rattle.stored.specs.Rows.{graphIn, IsIndex, Outlined, few-accounts, shape-sized, sized-few}
-use Rattle.pools.specs.Pools.{TOP, Row, PoolRows}
+use Rattle.stored.specs.Rows.{graphIn, Outlined, few-accounts, shape-sized, sized-few}
+use Rattle.pools.specs.Pools.{TOP, PoolRows}
 use Rattle.day.specs.Records.{records-length, record-here}
 use Rattle.day.specs.Checks.{dayFault, day-checked, no-fault}
 use Rattle.day.specs.Sums.{SUM}
 use Rattle.day.specs.Playing.{PlayAsks, Played, row-kept}
-use Rattle.margins.specs.Margins.{LEVEL, topsOf, Listed, RowGiven, marginIn, marginsIn, margins-length, bytes-length as margin-bytes-length}
+use Rattle.margins.specs.Margins.{LEVEL, topsOf, Listed, RowGiven, marginIn, marginsIn, margins-length}
 
 -- a reply of the code, and both buffers after the call, in the definitions' words
 abbrev pub triedIn : {A : Type 0} → CReply → List ℕ → List A → Tried A

@@ -1,13 +1,13 @@
--- `bets::trial::try_in` meets its contract. Assumes nothing.
+-- `trial::try_in` meets its contract. Assumes nothing.
 use native.Mathlib.Omega.{arith}
 use mathlib.Core.Path.{_≡_, refl, sym, _∙_}
 use Rattle.day.specs.Records.{records-length}
 use Rattle.truss.specs.Bets.{recordsIn}
 use Rattle.stored.specs.Rows.{graphIn}
-use Rattle.bets.specs.Trial.{in-refused, in-short, in-closed, close-asks, close-taken}
+use Rattle.trial.specs.Trial.{in-refused, in-short, in-closed, close-asks, close-taken}
 use borrow.Author.Needs.{needs}
-use Rattle.bets.proofs.trial.try_in.Statement.{statement}
-use Rattle.bets.proofs.trial.try_in.Tie as tie
+use Rattle.trial.proofs.try_in.Statement.{statement}
+use Rattle.trial.proofs.try_in.Tie as tie
 
 day-fault-requires : tie.Need-day-fault-requires
 day-fault-requires c κs = search needs

@@ -1,10 +1,10 @@
--- `bets::trial::close_with` meets its contract. Assumes nothing.
+-- `trial::close_with` meets its contract. Assumes nothing.
 use native.Mathlib.Omega.{arith}
 use mathlib.Core.Path.{_≡_, refl, _∙_}
-use Rattle.bets.specs.Trial.{close-size, close-list, close-short, close-play, close-done}
+use Rattle.trial.specs.Trial.{close-size, close-list, close-short, close-play, close-done}
 use borrow.Author.Needs.{needs}
-use Rattle.bets.proofs.trial.close_with.Statement.{statement}
-use Rattle.bets.proofs.trial.close_with.Tie as tie
+use Rattle.trial.proofs.close_with.Statement.{statement}
+use Rattle.trial.proofs.close_with.Tie as tie
 
 pool-rows-requires : tie.Need-pool-rows-requires
 pool-rows-requires c κs = (c .before .before .before .before .before .before .before .before .before .before .pre .0 .shape, (c .before .before .before .before .before .before .before .before .before .before .pre .0 .blank, (c .before .before .before .before .before .before .before .before .before .before .pre .0 .level, (c .before .before .before .before .before .before .before .before .before .before .pre .1 .0, c .before .before .before .before .before .before .before .before .before .before .pre .1 .1 .0))))
