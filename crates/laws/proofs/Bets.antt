@@ -1,31 +1,30 @@
 -- A limit tried on a day's bets. In order: margins without signs; one record more; the byte of a record; when a bet is taken; the groups at k by number. The statement is in Trial.
 -- A program that keeps a limit and sums needs `limit-bet`, `limit-new`, `stakes-bet`, `stakes-limit`, `byte-here`, `byte-alone`, `byte-room` and `byte-full`.
-use mathlib.Core.Path.{_≡_, refl, sym, ap, ap₂, _∙_, subst}
-use mathlib.Core.Logic.{_⊎_, inl, inr, _≢_}
-use mathlib.Core.Bool.{Bool, true, false, cond, _&&_, _||_}
+use mathlib.Core.Path.{_≡_, refl, sym, ap, _∙_}
+use mathlib.Core.Logic.{_⊎_, inl, inr}
+use mathlib.Core.Bool.{Bool, true, false, cond, _&&_}
 use mathlib.Core.List.{List, [], _∷_, _++_, map, append-assoc, append-nil}
-use mathlib.Core.List.{List·Memᴰ as In, List·Memᴰ·head as here, List·Memᴰ·tail as there, List·Memᴰ·not-nil as in-nil}
-use Prim.Native.Nat.{ℕ, zero, suc, _+_, _-_, _*_, _/_, _%_, _≤_, _<_}
+use mathlib.Core.List.{List·Memᴰ as In, List·Memᴰ·head as here, List·Memᴰ·not-nil as in-nil}
+use Prim.Native.Nat.{ℕ, zero, suc, _+_, _-_, _≤_, _<_}
 use native.Mathlib.Nat.{not-suc-le-zero, le-of-suc-le-suc}
 use native.Mathlib.Numerals.{add-one}
 use native.Mathlib.Omega.{arith}
-use lib.Dec.{T, eqb, ltb, leb}
-use lib.ListN.{length, getD, take, drop, length-append, length-map}
-use lib.Seq.{ext-getD, take-suc, take-length, length-take-le}
-use lib.IntN.{ℤ, pos, negsuc, _-ℤ_}
-use lib.Signed.{leZ, mag, _≤ℤ_}
-use borrow.Author.Tests.{ltb-true, ltb-false, leb-true, leb-false, lt-ltb, le-ltb, le-leb, lt-leb, eq-eqb, ne-eqb, eqb-true}
-use Rattle.truss.specs.Limits.{maxLimit}
+use lib.Dec.{eqb, leb}
+use lib.ListN.{length, getD, take, length-append, length-map}
+use lib.Seq.{ext-getD, take-suc, length-take-le}
+use lib.IntN.{pos, negsuc, _-ℤ_}
+use lib.Signed.{leZ, mag}
+use borrow.Author.Tests.{lt-ltb, le-ltb, le-leb, lt-leb, ne-eqb}
 use Rattle.truss.specs.Lists.{filter, all, range}
 use Rattle.truss.specs.Graph.{Graph}
 use Rattle.truss.specs.Group.{Group, groups}
 use Rattle.truss.specs.Question.{holds, emptyGroup, isGroupAt, numbersOf}
-use Rattle.truss.specs.Bets.{DayRecord, bet, new-limit, limitAfter, stakesTaken, marginOf, groupsOf, poolsOf, byteFor, bytesAfter, Day, dayOf}
+use Rattle.truss.specs.Bets.{DayRecord, bet, new-limit, limitAfter, stakesTaken, marginOf, groupsOf, poolsOf, byteFor, bytesAfter}
 use Rattle.truss.specs.Trial.{noRecord}
 use Rattle.laws.proofs.Numbers.{less-or-not}
 use Rattle.laws.proofs.Lists.{test, true-not-false}
 use Rattle.laws.proofs.Members.{filter-in, in-filter, map-in, in-map, getD-in, range-length}
-use Rattle.laws.proofs.Sets.{all-in, in-all, map-at, map-range-at}
+use Rattle.laws.proofs.Sets.{all-in, in-all, map-range-at}
 
 -- ---- margins without signs
 

@@ -2,7 +2,7 @@
 use mathlib.Core.Path.{_≡_, refl, sym, ap, _∙_}
 use mathlib.Core.Logic.{_⊎_, inl, inr, _≢_}
 use mathlib.Core.Bool.{Bool, true, false, cond}
-use mathlib.Core.List.{List, [], _∷_, _++_, map}
+use mathlib.Core.List.{List, [], _∷_, _++_, map, append-nil, append-assoc}
 use mathlib.Core.List.{List·Memᴰ as In, List·Memᴰ·head as here, List·Memᴰ·tail as there, List·Memᴰ·not-nil as in-nil, List·Memᴰ·cases-cons as in-cons, Memᴰ·append-left as in-left, Memᴰ·append-right as in-right, List·Memᴰ·append-cases as in-append}
 use Prim.Native.Nat.{ℕ, zero, suc, _+_, _≤_, _<_, suc-le-suc}
 use native.Mathlib.Nat.{not-suc-le-zero, le-of-suc-le-suc, zero-lt-suc, zero-add}
@@ -196,20 +196,42 @@ module _ {A B : Type 0} where
       go (inr k) ih = there (ih k)
 
 -- the last of the numbers from a on
+-- one element more at the end
+pub filter-last : {A : Type 0} (p : A → Bool) (xs : List A) (x : A) → filter p (xs ++ (x ∷ [])) ≡ filter p xs ++ cond (p x) (x ∷ []) []
+unfolding filter
+filter-last {A} p [] x = go (p x)
+  where
+    go : (b : Bool) → _≡_ {A = List A} (cond b (x ∷ []) []) (cond b (x ∷ []) [])
+    go b = refl
+filter-last {A} p (y ∷ ys) x = go (p y) (filter-last p ys x)
+  where
+    go : (b : Bool) → filter p (ys ++ (x ∷ [])) ≡ filter p ys ++ cond (p x) (x ∷ []) [] → cond b (y ∷ filter p (ys ++ (x ∷ []))) (filter p (ys ++ (x ∷ []))) ≡ cond b (y ∷ filter p ys) (filter p ys) ++ cond (p x) (x ∷ []) []
+    go true ih = ap {B = List A} (λ r. y ∷ r) ih
+    go false ih = ih
+
+pub map-last : {A B : Type 0} (f : A → B) (xs : List A) (x : A) → map f (xs ++ (x ∷ [])) ≡ map f xs ++ (f x ∷ [])
+map-last f [] x = refl
+map-last {A} {B} f (y ∷ ys) x = ap {B = List B} (λ r. f y ∷ r) (map-last f ys x)
+
+pub concatMap-last : {A B : Type 0} (f : A → List B) (xs : List A) (x : A) → concatMap f (xs ++ (x ∷ [])) ≡ concatMap f xs ++ f x
+unfolding concatMap
+concatMap-last f [] x = append-nil (f x)
+concatMap-last {A} {B} f (y ∷ ys) x = ap {B = List B} (λ r. f y ++ r) (concatMap-last f ys x) ∙ sym (append-assoc (f y) (concatMap f ys) (f x))
+
 pub range-last : (a n : ℕ) → range a (suc n) ≡ range a n ++ ((a + n) ∷ [])
 unfolding range
 range-last a zero = ap (λ (x : ℕ). x ∷ []) (omega arith)
 range-last a (suc n) = ap {B = List ℕ} (λ r. a ∷ r) (range-last (suc a) n ∙ ap (λ (x : ℕ). range (suc a) n ++ (x ∷ [])) (omega arith))
 
 -- how many numbers below n pass is how long the list of them is
-filter-last : (p : ℕ → Bool) (xs : List ℕ) (x : ℕ) → length (filter p (xs ++ (x ∷ []))) ≡ cond (p x) 1 0 + length (filter p xs)
+counted-last : (p : ℕ → Bool) (xs : List ℕ) (x : ℕ) → length (filter p (xs ++ (x ∷ []))) ≡ cond (p x) 1 0 + length (filter p xs)
 unfolding filter
-filter-last p [] x = go (p x)
+counted-last p [] x = go (p x)
   where
     go : (t : Bool) → length (cond t (x ∷ []) []) ≡ cond t 1 0 + 0
     go true = refl
     go false = refl
-filter-last p (y ∷ ys) x = go (p y) (filter-last p ys x)
+counted-last p (y ∷ ys) x = go (p y) (counted-last p ys x)
   where
     go : (t : Bool) → length (filter p (ys ++ (x ∷ []))) ≡ cond (p x) 1 0 + length (filter p ys)
         → length (cond t (y ∷ filter p (ys ++ (x ∷ []))) (filter p (ys ++ (x ∷ [])))) ≡ cond (p x) 1 0 + length (cond t (y ∷ filter p ys) (filter p ys))
@@ -221,7 +243,7 @@ unfolding count filter range
 count-filter p zero = refl
 count-filter p (suc n) =
     ap (λ (xs : List ℕ). length (filter p xs)) (range-last 0 n ∙ ap (λ (x : ℕ). range 0 n ++ (x ∷ [])) (zero-add n))
-    ∙ filter-last p (range 0 n) n ∙ ap (λ (x : ℕ). cond (p n) 1 0 + x) (count-filter p n)
+    ∙ counted-last p (range 0 n) n ∙ ap (λ (x : ℕ). cond (p n) 1 0 + x) (count-filter p n)
 
 -- a list with an element has a first
 pub first-in : (xs : List ℕ) {j : ℕ} → In j xs → In (getD xs 0 0) xs

@@ -1,14 +1,14 @@
 -- The groups at k as a row of numbers, and their margins, as numbers and as bytes. Assumes nothing.
 use mathlib.Core.Path.{_≡_, refl, sym, ap, _∙_, subst}
 use mathlib.Core.Logic.{_⊎_, inl, inr, _≢_}
-use mathlib.Core.Bool.{Bool, true, false, cond}
-use mathlib.Core.List.{List, [], _∷_, _++_, map, append-nil, append-assoc}
+use mathlib.Core.Bool.{true, false, cond}
+use mathlib.Core.List.{List, [], _∷_, _++_, map, append-nil}
 use Prim.Native.Nat.{ℕ, zero, suc, _+_, _*_, _-_, _^_, _≤_, _<_}
 use native.Mathlib.Nat.{zero-add, not-suc-le-zero}
 use native.Mathlib.Numerals.{add-one}
 use native.Mathlib.Omega.{arith}
 use lib.Dec.{T, eqb}
-use lib.ListN.{length, getD, drop, set, length-append, length-map, List·getD-append}
+use lib.ListN.{length, getD, set, length-append, length-map, List·getD-append}
 use lib.Seq.{getD-at}
 use lib.IntN.{ℤ, pos, negsuc, natAbs, _-ℤ_}
 use lib.Signed.{ltZ, mag, nonNeg}
@@ -24,7 +24,7 @@ use Rattle.truss.specs.Bets.{maxWord, complement, marginBytes}
 use Rattle.laws.proofs.Numbers.{same-or-not}
 use Rattle.laws.proofs.Lists.{true-not-false}
 use Rattle.laws.proofs.Bets.{margin-mag}
-use Rattle.laws.proofs.Members.{range-last, range-length}
+use Rattle.laws.proofs.Members.{range-last, range-length, filter-last, map-last, concatMap-last}
 use Rattle.columns.specs.Columns.{cell, store, COLUMNS, linkBound, entryBound}
 use Rattle.columns.specs.Laws.{stored, kept-entry, kept-column, length-store}
 use Rattle.wire.specs.Writing.{written, written-none}
@@ -120,18 +120,6 @@ unfoldable pub topsOf : List ℕ → ℕ → ℕ → List ℕ
 unfolding filter range
 topsOf w m count = filter (λ g. eqb (cell w m TOP g) g) (range 0 count)
 
-filter-last : (p : ℕ → Bool) (xs : List ℕ) (x : ℕ) → filter p (xs ++ (x ∷ [])) ≡ filter p xs ++ cond (p x) (x ∷ []) []
-unfolding filter
-filter-last p [] x = go (p x)
-  where
-    go : (b : Bool) → cond b (x ∷ []) [] ≡ cond b (x ∷ []) []
-    go b = refl
-filter-last p (y ∷ ys) x = go (p y) (filter-last p ys x)
-  where
-    go : (b : Bool) → filter p (ys ++ (x ∷ [])) ≡ filter p ys ++ cond (p x) (x ∷ []) [] → cond b (y ∷ filter p (ys ++ (x ∷ []))) (filter p (ys ++ (x ∷ []))) ≡ cond b (y ∷ filter p ys) (filter p ys) ++ cond (p x) (x ∷ []) []
-    go true ih = ap {B = List ℕ} (λ r. y ∷ r) ih
-    go false ih = ih
-
 module _ (w : List ℕ) (m g : ℕ) where
   tops-next : topsOf w m (g + 1) ≡ topsOf w m g ++ cond (eqb (cell w m TOP g) g) (g ∷ []) []
   unfolding topsOf
@@ -218,10 +206,6 @@ unfoldable pub marginsIn : List ℕ → ℕ → ℕ → ℕ → List ℤ
 unfolding range
 marginsIn w m limit r = map (marginIn w m limit) (range 0 r)
 
-map-last : {A B : Type 0} (f : A → B) (xs : List A) (x : A) → map f (xs ++ (x ∷ [])) ≡ map f xs ++ (f x ∷ [])
-map-last f [] x = refl
-map-last {A} {B} f (y ∷ ys) x = ap {B = List B} (λ r. f y ∷ r) (map-last f ys x)
-
 module _ (w : List ℕ) (m limit : ℕ) where
   pub margins-none : marginsIn w m limit 0 ≡ []
   unfolding marginsIn
@@ -252,11 +236,6 @@ over-margin w m limit j out₀ {out} {z} q l e small =
 abbrev pub bytesIn : List ℕ → ℕ → ℕ → ℕ → List ℕ
 bytesIn w m limit r = concatMap marginBytes (marginsIn w m limit r)
 
-bytes-snoc : (xs : List ℤ) (x : ℤ) → concatMap marginBytes (xs ++ (x ∷ [])) ≡ concatMap marginBytes xs ++ marginBytes x
-unfolding concatMap
-bytes-snoc [] x = append-nil (marginBytes x)
-bytes-snoc (y ∷ ys) x = ap (λ (r : List ℕ). marginBytes y ++ r) (bytes-snoc ys x) ∙ sym (append-assoc (marginBytes y) (concatMap marginBytes ys) (marginBytes x))
-
 pub margin-eight : (z : ℤ) → length (marginBytes z) ≡ marginLength
 unfolding marginBytes
 margin-eight z = refl
@@ -272,7 +251,7 @@ module _ (w : List ℕ) (m limit : ℕ) where
   bytes-none out = written-none out 0
 
   pub bytes-more : (j : ℕ) {z : ℤ} → z ≡ marginIn w m limit j → bytesIn w m limit j ++ marginBytes z ≡ bytesIn w m limit (j + 1)
-  bytes-more j {z} q = ap (λ (x : ℤ). bytesIn w m limit j ++ marginBytes x) q ∙ sym (ap (concatMap marginBytes) (margins-more w m limit j) ∙ bytes-snoc (marginsIn w m limit j) (marginIn w m limit j))
+  bytes-more j {z} q = ap (λ (x : ℤ). bytesIn w m limit j ++ marginBytes x) q ∙ sym (ap (concatMap marginBytes) (margins-more w m limit j) ∙ concatMap-last marginBytes (marginsIn w m limit j) (marginIn w m limit j))
 
   pub bytes-eight : (r : ℕ) → length (bytesIn w m limit r) ≡ r * marginLength
   bytes-eight r = bytes-length (marginsIn w m limit r) ∙ ap (λ (x : ℕ). x * marginLength) (margins-length w m limit r)

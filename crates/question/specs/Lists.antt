@@ -2,7 +2,7 @@
 use mathlib.Core.Path.{_≡_, refl, sym, ap, ap₂, _∙_}
 use mathlib.Core.Logic.{_⊎_, inl, inr, _≢_}
 use mathlib.Core.Bool.{Bool, true, false, cond, not}
-use mathlib.Core.List.{List, [], _∷_, _++_, append-nil}
+use mathlib.Core.List.{List, [], _∷_, _++_}
 use Prim.Native.Nat.{ℕ, zero, suc, _+_, _*_, _-_, _≤_, _<_}
 use native.Mathlib.Omega.{arith}
 use lib.Dec.{eqb}
@@ -15,7 +15,7 @@ use Rattle.truss.specs.Question.{numbers}
 use Rattle.truss.specs.Call.{answerBytes, answerValue, answerSecond}
 use Rattle.laws.proofs.Numbers.{same-or-not}
 use Rattle.laws.proofs.Lists.{bool-same}
-use Rattle.laws.proofs.Members.{range-in}
+use Rattle.laws.proofs.Members.{range-in, concatMap-last}
 use Rattle.laws.proofs.Sets.{filter-same}
 use Rattle.laws.proofs.Answers.{fields-length, answer-length}
 use Rattle.columns.specs.Columns.{cell, COLUMNS}
@@ -48,14 +48,9 @@ marked-few w m (suc i) =
 
 -- ---- their bytes
 
-bytes-snoc : (xs : List ℕ) (x : ℕ) → concatMap field (xs ++ (x ∷ [])) ≡ concatMap field xs ++ field x
-unfolding concatMap
-bytes-snoc [] x = append-nil (field x)
-bytes-snoc (y ∷ ys) x = ap (λ (r : List ℕ). field y ++ r) (bytes-snoc ys x) ∙ sym (mathlib.Core.List.append-assoc (field y) (concatMap field ys) (field x))
-
 module _ (w : List ℕ) (m i : ℕ) where
   pub bytes-more : {x : ℕ} → x ≡ cell w m 0 i → x ≢ 0 → concatMap field (marked w m (i + 1)) ≡ concatMap field (marked w m i) ++ field i
-  bytes-more q n = ap (concatMap field) (marked-more w m i (λ z. n (q ∙ z))) ∙ bytes-snoc (marked w m i) i
+  bytes-more q n = ap (concatMap field) (marked-more w m i (λ z. n (q ∙ z))) ∙ concatMap-last field (marked w m i) i
 
   pub bytes-same : {x : ℕ} → x ≡ cell w m 0 i → x ≡ 0 → concatMap field (marked w m (i + 1)) ≡ concatMap field (marked w m i)
   bytes-same q z = ap (concatMap field) (marked-same w m i (sym q ∙ z))
@@ -180,7 +175,7 @@ module _ (w : List ℕ) (m : ℕ) where
   row-none out = written-none out 0
 
   pub row-more : (i : ℕ) {g : ℕ} → g ≡ cell w m 3 i → rowBytes w m i ++ field g ≡ rowBytes w m (i + 1)
-  row-more i {g} q = ap (λ (x : ℕ). rowBytes w m i ++ field x) q ∙ sym (ap (concatMap field) (front-more (cell w m 3) i) ∙ bytes-snoc (front (cell w m 3) i) (cell w m 3 i))
+  row-more i {g} q = ap (λ (x : ℕ). rowBytes w m i ++ field x) q ∙ sym (ap (concatMap field) (front-more (cell w m 3) i) ∙ concatMap-last field (front (cell w m 3) i) (cell w m 3 i))
 
   pub row-length : (i : ℕ) → length (rowBytes w m i) ≡ 2 * i
   row-length i = fields-length (front (cell w m 3) i) ∙ ap (λ (x : ℕ). 2 * x) (front-length (cell w m 3) i)
