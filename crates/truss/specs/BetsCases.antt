@@ -23,7 +23,7 @@ pub record BetsCases : Type 0 where
   A-no-groups : dayOf graphA 64 5 (bet 1 5 ∷ bet 2 5 ∷ bet 1 1 ∷ []) ≡ record { taken = 1 ∷ 1 ∷ 0 ∷ []; margins = [] }
   no-records : dayOf graphA 3 7 [] ≡ record { taken = []; margins = pos 7 ∷ [] }
   -- "order 7, 10, 16, 15 for the opening limit, then by record 9, 15"
-  level-first : checkDay graphA 65 1000000001 (map (λ i. bet 5 0) (range 0 4097)) ≡ refuse 10 0
+  level-first : checkDay graphA 1 1000000001 (map (λ i. bet 5 0) (range 0 4097)) ≡ refuse 10 0
   too-many-records : checkDay graphA 3 1000000001 (map (λ i. bet 5 0) (range 0 4097)) ≡ refuse 16 0
   most-records : checkDay graphA 3 0 (map (λ i. bet 5 0) (range 0 4096)) ≡ refuse 9 0
   opening-before-records : checkDay graphA 3 1000000001 (bet 5 0 ∷ []) ≡ refuse 15 0
@@ -38,7 +38,7 @@ pub record BetsCases : Type 0 where
   over-the-front : tryLimit indexA 3 9 (bet 0 9 ∷ []) (7 ∷ 7 ∷ []) (pos 7 ∷ pos 7 ∷ []) ≡ record { reply = done 1; taken = 1 ∷ 7 ∷ []; margins = pos 0 ∷ pos 7 ∷ [] }
   no-room-for-bytes : tryLimit indexA 3 9 (bet 0 9 ∷ []) [] (pos 7 ∷ []) ≡ record { reply = record { refusal = 12; value = 0; second = 0; third = 0 }; taken = []; margins = pos 7 ∷ [] }
   no-room-for-margins : tryLimit indexA 3 9 (bet 0 9 ∷ []) (7 ∷ []) [] ≡ record { reply = record { refusal = 12; value = 0; second = 0; third = 0 }; taken = 7 ∷ []; margins = [] }
-  no-index : tryLimit [] 65 9 [] (7 ∷ []) [] ≡ record { reply = record { refusal = 7; value = 0; second = 0; third = 0 }; taken = 7 ∷ []; margins = [] }
+  no-index : tryLimit [] 1 9 [] (7 ∷ []) [] ≡ record { reply = record { refusal = 7; value = 0; second = 0; third = 0 }; taken = 7 ∷ []; margins = [] }
   -- from C
   records-in-bytes : recordsIn (0 ∷ 0 ∷ 0 ∷ 1 ∷ 3 ∷ 0 ∷ 0 ∷ 0 ∷ 60 ∷ 1 ∷ 9 ∷ 9 ∷ 9 ∷ 9 ∷ 0 ∷ 0 ∷ 1 ∷ 0 ∷ 0 ∷ 0 ∷ []) ≡ bet 259 60 ∷ new-limit 256 ∷ []
   below-zero : marginBytes (negsuc 9) ≡ 255 ∷ 255 ∷ 255 ∷ 255 ∷ 255 ∷ 255 ∷ 255 ∷ 246 ∷ []
@@ -51,9 +51,11 @@ pub record BetsCases : Type 0 where
   five-at-3 : dayOf five 3 100 (bet 0 60 ∷ bet 1 50 ∷ []) ≡ record { taken = 1 ∷ 0 ∷ []; margins = pos 40 ∷ [] }
   limits-at-the-ends : checkDay graphA 3 5 (new-limit 0 ∷ new-limit 1000000000 ∷ []) ≡ passed (record { taken = 1 ∷ 1 ∷ []; margins = pos 1000000000 ∷ [] })
   level-below : checkDay graphA 1 0 [] ≡ refuse 10 0
-  level-highest : checkDay graphA 64 7 [] ≡ passed (record { taken = []; margins = [] })
+  level-lowest : checkDay graphA 2 7 [] ≡ passed (record { taken = []; margins = pos 7 ∷ pos 7 ∷ [] })
   just-room : tryLimit indexA 3 9 (bet 0 9 ∷ []) (7 ∷ []) (pos 7 ∷ []) ≡ record { reply = done 1; taken = 1 ∷ []; margins = pos 0 ∷ [] }
   records-before-room : tryLimit indexA 3 9 (bet 0 1 ∷ bet 0 0 ∷ []) [] [] ≡ record { reply = record { refusal = 15; value = 0; second = 0; third = 0 }; taken = []; margins = [] }
+  account-before-room : tryLimit indexA 3 9 (bet 0 1 ∷ bet 5 1 ∷ []) [] [] ≡ record { reply = record { refusal = 9; value = 0; second = 0; third = 0 }; taken = []; margins = [] }
+  limit-before-room : tryLimit indexA 3 9 (new-limit 1000000001 ∷ []) [] [] ≡ record { reply = record { refusal = 15; value = 0; second = 0; third = 0 }; taken = []; margins = [] }
   just-room-in-bytes : tryLimitBytes indexA 3 9 (0 ∷ 0 ∷ 0 ∷ 0 ∷ 0 ∷ 0 ∷ 0 ∷ 0 ∷ 9 ∷ []) (7 ∷ []) (7 ∷ 7 ∷ 7 ∷ 7 ∷ 7 ∷ 7 ∷ 7 ∷ 7 ∷ [])
       ≡ record { reply = done 1; taken = 1 ∷ []; margins = 0 ∷ 0 ∷ 0 ∷ 0 ∷ 0 ∷ 0 ∷ 0 ∷ 0 ∷ [] }
   four-bytes : recordsIn (0 ∷ 1 ∷ 2 ∷ 3 ∷ 4 ∷ 59 ∷ 154 ∷ 202 ∷ 0 ∷ 2 ∷ 0 ∷ 0 ∷ 0 ∷ 0 ∷ 59 ∷ 154 ∷ 202 ∷ 0 ∷ []) ≡ bet 16909060 1000000000 ∷ new-limit 1000000000 ∷ []
@@ -107,9 +109,11 @@ bets-cases = record {
   five-at-3 = refl;
   limits-at-the-ends = refl;
   level-below = refl;
-  level-highest = refl;
+  level-lowest = refl;
   just-room = refl;
   records-before-room = refl;
+  account-before-room = refl;
+  limit-before-room = refl;
   just-room-in-bytes = refl;
   four-bytes = refl;
   A-at-2 = refl;

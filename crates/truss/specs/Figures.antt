@@ -6,6 +6,7 @@ use Rattle.truss.specs.Limits.{maxAccounts, maxLinks, minStrength, maxSt
 use Rattle.truss.specs.Refusal.{passed, refuse}
 use Rattle.truss.specs.LinksFile.{accepted, readLinks}
 use Rattle.truss.specs.Question.{answer, ask-groups-at, ask-links, ask-chain, numbers, chain}
+use Rattle.truss.specs.Bets.{checkDay}
 use Rattle.truss.specs.Cards.{corners, file, headOnly, accounts, triangle}
 
 pub record Figures : Type 0 where
@@ -52,9 +53,12 @@ pub record Figures : Type 0 where
   G-level-2 : answer triangle (ask-chain 2 0 1 1 2) ≡ passed (chain (corners 0 1 2 ∷ []))
   G-level-64 : answer triangle (ask-chain 64 0 1 1 2) ≡ passed (chain [])
   G-level-65 : answer triangle (ask-chain 65 0 1 1 2) ≡ refuse 10 0
+  -- and of a limit tried on bets (1 and 2: BetsCases)
+  bets-level-64 : checkDay triangle 64 7 [] ≡ passed (record { taken = []; margins = [] })
+  bets-level-65 : checkDay triangle 65 7 [] ≡ refuse 10 0
 
 pub figures : Figures
-unfolding triangle corners file headOnly accounts readLinks answer
+unfolding triangle corners file headOnly accounts readLinks answer checkDay
 figures = record {
   accounts-are = refl;
   links-are = refl;
@@ -91,4 +95,6 @@ figures = record {
   G-level-2 = refl;
   G-level-64 = refl;
   G-level-65 = refl;
+  bets-level-64 = refl;
+  bets-level-65 = refl;
 }

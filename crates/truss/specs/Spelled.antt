@@ -143,7 +143,7 @@ TrialRefused bytes k opening rs r =
 
 -- level, number of records and opening limit are in range
 abbrev Opens : ℕ → ℕ → List DayRecord → Type 0
-Opens k opening rs = (2 ≤ k) × (k ≤ 64) × (length rs ≤ 4096) × (opening ≤ 1_000_000_000)
+Opens k opening rs = (2 ≤ k) × (k ≤ maxLevel) × (length rs ≤ 4096) × (opening ≤ 1_000_000_000)
 
 abbrev InRange : Graph → DayRecord → Type 0
 InRange G (bet a s) = (a < G .n) × (1 ≤ s) × (s ≤ 1_000_000)
@@ -403,9 +403,9 @@ pub record Spelled : Type 0 where
   refused-change : RefusalKeeps → (c : Change) (bytes buffer : List ℕ) → change c bytes buffer .reply .refusal ≢ 0 → change c bytes buffer .buffer ≡ buffer
   -- a limit tried on a day's bets: 7, 10, 16, 15, then by record 9 and 15, then 12, each in front of the next; the levels and limits of document 02
   trial-7 : TrialRule → (bytes : List ℕ) (k opening : ℕ) (rs : List DayRecord) → readIndex bytes ≡ refuse 7 0 → TrialRefused bytes k opening rs 7
-  trial-10 : TrialRule → (bytes : List ℕ) (G : Graph) (k opening : ℕ) (rs : List DayRecord) → readIndex bytes ≡ passed G → (k < 2) ⊎ (64 < k) → TrialRefused bytes k opening rs 10
-  trial-16 : TrialRule → (bytes : List ℕ) (G : Graph) (k opening : ℕ) (rs : List DayRecord) → readIndex bytes ≡ passed G → 2 ≤ k → k ≤ 64 → 4096 < length rs → TrialRefused bytes k opening rs 16
-  trial-15 : TrialRule → (bytes : List ℕ) (G : Graph) (k opening : ℕ) (rs : List DayRecord) → readIndex bytes ≡ passed G → 2 ≤ k → k ≤ 64 → length rs ≤ 4096 → 1_000_000_000 < opening
+  trial-10 : TrialRule → (bytes : List ℕ) (G : Graph) (k opening : ℕ) (rs : List DayRecord) → readIndex bytes ≡ passed G → (k < 2) ⊎ (maxLevel < k) → TrialRefused bytes k opening rs 10
+  trial-16 : TrialRule → (bytes : List ℕ) (G : Graph) (k opening : ℕ) (rs : List DayRecord) → readIndex bytes ≡ passed G → 2 ≤ k → k ≤ maxLevel → 4096 < length rs → TrialRefused bytes k opening rs 16
+  trial-15 : TrialRule → (bytes : List ℕ) (G : Graph) (k opening : ℕ) (rs : List DayRecord) → readIndex bytes ≡ passed G → 2 ≤ k → k ≤ maxLevel → length rs ≤ 4096 → 1_000_000_000 < opening
       → TrialRefused bytes k opening rs 15
   trial-record-9 : TrialRule → (bytes : List ℕ) (G : Graph) (k opening : ℕ) (rs : List DayRecord) (i a s : ℕ) → readIndex bytes ≡ passed G → Opens k opening rs → i < length rs → AllInRange G rs i
       → getD rs i (new-limit 0) ≡ bet a s → G .n ≤ a → TrialRefused bytes k opening rs 9
@@ -432,9 +432,9 @@ pub record Spelled : Type 0 where
       → (tryLimitBytes bytes k opening records taken margins .taken ≡ taken) × (tryLimitBytes bytes k opening records taken margins .margins ≡ margins)
   -- the groups at k: stored groups in the order of their numbers; the group at k of each link is one of them, and each of them is the group at k of its links
   groups-at-k : (G : Graph) (k : ℕ) → groupsOf G k ≡ filter (λ g. sameList (groupAt G k (leastLink g)) (g .members)) (groups G)
-  group-of-link : TrialRule → (bytes : List ℕ) (G : Graph) (k i j : ℕ) → readIndex bytes ≡ passed G → 2 ≤ k → k ≤ 64 → In j (groupAt G k i)
+  group-of-link : TrialRule → (bytes : List ℕ) (G : Graph) (k i j : ℕ) → readIndex bytes ≡ passed G → 2 ≤ k → k ≤ maxLevel → In j (groupAt G k i)
       → (g : Group) × In g (groupsOf G k) × (g .members ≡ groupAt G k i)
-  links-of-group : TrialRule → (bytes : List ℕ) (G : Graph) (k : ℕ) (g : Group) → readIndex bytes ≡ passed G → 2 ≤ k → k ≤ 64 → In g (groupsOf G k)
+  links-of-group : TrialRule → (bytes : List ℕ) (G : Graph) (k : ℕ) (g : Group) → readIndex bytes ≡ passed G → 2 ≤ k → k ≤ maxLevel → In g (groupsOf G k)
       → In g (groups G) × ((i : ℕ) → In i (g .members) → groupAt G k i ≡ g .members)
   sequence-tells : ChangesTell → (b x : List ℕ) (G : Graph) (T : LinkSet) → readIndex b ≡ passed G → Changes Changed b (member (G .links)) x T → Tells x (G .n) T
 
