@@ -40,9 +40,9 @@ typedef struct {
 
 /* Bytes of stack that are enough for any call, below the caller's frame. No function calls itself, directly or through others, and each frame has a fixed size, so the
  * deepest row of calls bounds every call, whatever is lent: 147,928 bytes of fe_build, 147,976 of fe_read, 148,024 of a change, 153,080 of a question,
- * TODO of fe_try_limit. Summed from the object code (tests/frames) and measured (tests/c/stack.c), not proved. The other 10,760 bytes are for the C library's memset and
+ * 160,344 of fe_try_limit. Summed from the object code (tests/frames) and measured (tests/c/stack.c), not proved. The other 7,592 bytes are for the C library's memset and
  * memcpy: a first call that had to bind memset took 3,088 of them. A thread needs all this and what its own functions take. */
-#define FE_STACK_MAX 163840
+#define FE_STACK_MAX 167936
 
 /* Every call:
  *   - A slice is a pointer to its first byte and its length in bytes. With length 0 any pointer will do, null too. No alignment is needed.
