@@ -13,7 +13,7 @@ use reference::records::two;
 use terminal::Change::{self, PutIn, Withdraw};
 use terminal::{alter, Reply, Slice, INDEX_MAX};
 
-fn reply(refusal: u32, value: usize) -> Reply {
+pub fn reply(refusal: u32, value: usize) -> Reply {
     Reply {
         refusal,
         value: value as u32,

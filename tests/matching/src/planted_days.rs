@@ -7,6 +7,7 @@ use crate::known::index_of;
 use crate::lent::RULES;
 use crate::parties::{beside, clique, nested, pair, triangle, Party};
 use crate::planted::{flip, headed};
+use crate::planted_changes::reply;
 use crate::tried::{is_right, read, to_bytes, Parties, Record, Trier, Try};
 use reference::card::{links_file, Card};
 use reference::index::Index;
@@ -14,15 +15,6 @@ use reference::random::Random;
 use terminal::{
     try_on, Day, Reply, Slice, Trial, LIMIT_MAX, MARGIN, RECORD, RECORDS_MAX, STAKE_MAX,
 };
-
-fn reply(refusal: u32, value: usize) -> Reply {
-    Reply {
-        refusal,
-        value: value as u32,
-        second: 0,
-        third: 0,
-    }
-}
 
 unsafe fn bytes<'a>((at, length): Slice) -> &'a mut [u8] {
     std::slice::from_raw_parts_mut(at, length)
