@@ -4,3 +4,4 @@ pub mod Gather
 pub mod Listed
 pub mod Visit
 pub mod Level
+pub mod Sweep

@@ -2,29 +2,29 @@
 -- A place is written as a join: weight, lower and higher link. `Gone p y`: y stands before p. `Left p y`: it does not.
 use mathlib.Core.Path.{_≡_, refl, sym, ap, _∙_, subst}
 use mathlib.Core.Logic.{_⊎_, inl, inr, _≢_}
-use mathlib.Core.Bool.{Bool, true, false, cond, not}
+use mathlib.Core.Bool.{Bool, true, false, cond, not, _&&_}
 use mathlib.Core.List.{List, [], _∷_, _++_, append-assoc, append-nil}
-use mathlib.Core.List.{List·Memᴰ as In, List·Memᴰ·head as here, List·Memᴰ·tail as there, List·Memᴰ·not-nil as in-nil, List·Memᴰ·cases-cons as in-cons, List·Memᴰ·append-cases as in-append}
+use mathlib.Core.List.{List·Memᴰ as In, List·Memᴰ·head as here, List·Memᴰ·tail as there, List·Memᴰ·not-nil as in-nil, List·Memᴰ·cases-cons as in-cons, List·Memᴰ·append-cases as in-append, Memᴰ·append-left as in-left}
 use Prim.Native.Nat.{ℕ, suc, _+_, _≤_, _<_}
 use native.Mathlib.Nat.{le-refl, le-trans}
 use native.Mathlib.Omega.{arith}
-use lib.Dec.{eqb, ltb}
+use lib.Dec.{eqb, leb, ltb}
 use lib.ListN.{length, length-append}
 use borrow.Author.Tests.{eqb-true, eqb-false, ltb-true, ltb-false, ne-eqb, le-leb, lt-leb}
-use Rattle.truss.specs.Lists.{filter, concatMap}
+use Rattle.truss.specs.Lists.{count, filter, concatMap}
 use Rattle.truss.specs.Graph.{Graph, triangles}
 use Rattle.truss.specs.Forest.{Join, joinBefore, triangleJoins, allJoins, singletons, merge, sameComponent, kruskal, components, forest}
 use Rattle.truss.specs.Group.{labelsAt}
-use Rattle.laws.proofs.Lists.{test, true-not-false}
+use Rattle.laws.proofs.Lists.{test, true-not-false, and-left, count-mono}
 use Rattle.laws.proofs.Members.{Sorted, sort-sorted, filter-none, filter-in}
 use Rattle.laws.proofs.Sets.{filter-same}
 use Rattle.laws.proofs.Ordering.{Distinct}
 use Rattle.laws.proofs.JoinOrder.{joins-distinct}
 use Rattle.laws.proofs.Components.{label, Same, same-sameComponent, merge-keeps, merge-ends, heavy, kruskal-in}
 use Rattle.laws.proofs.Connected.{forest-labels}
-use Rattle.laws.proofs.Groups.{size}
-use Rattle.laws.proofs.Size.{forest-size}
-use Rattle.laws.proofs.Sides.{InOrder, links-distinct}
+use Rattle.laws.proofs.Groups.{size, strengthAt}
+use Rattle.laws.proofs.Size.{forest-size, root, singletons-roots, singletons-own, rootsOf, Within, Spanned, spanned, one-root}
+use Rattle.laws.proofs.Sides.{InOrder, links-distinct, join-strong}
 
 -- ---- places
 
@@ -337,6 +337,37 @@ module _ (G : Graph) where
       pub room-to-take : 0 < size G → length taken + 1 < size G
       room-to-take pos =
           omega (arith, forest-size G pos, ap length (sym (g .whole)) ∙ length-append taken (kruskal (labelsOf G taken) (filter (from p) (allJoins G))), ap length step)
+
+    -- Once the joins taken are one fewer than the links of strength k or more, these links are one tree: any two are in one component.
+    pub grown-tree : InOrder G → (k : ℕ) → k ≤ p .weight → count (λ i. leb k (strengthAt G i)) (size G) ≤ length taken + 1
+        → (a b : ℕ) → a < size G → b < size G → k ≤ strengthAt G a → k ≤ strengthAt G b → Same (labelsOf G taken) a b
+    unfolding forest
+    grown-tree o k le few a b la lb ka kb =
+        one-root strong (size G) (S .roots) (S .closed) (omega (arith, S .sum, few, at-first)) a b la lb (le-leb k (strengthAt G a) ka) (le-leb k (strengthAt G b) kb)
+      where
+        strong : ℕ → Bool
+        strong i = leb k (strengthAt G i)
+
+        rest : List Join
+        rest = kruskal (labelsOf G taken) (filter (from p) (allJoins G))
+
+        -- a join taken has both ends among these links
+        within : (z : Join) → In z taken → Within strong (size G) z
+        within z mz =
+            let r = join-strong G o (kruskal-in (allJoins G) (singletons (size G)) (subst (In z) (g .whole) (in-left rest mz))) in
+            let h = g .heavy z mz in
+            record {
+              low-in = r .low-in;
+              high-in = r .high-in;
+              low-of = le-leb k (strengthAt G (z .lower)) (omega (arith, le, h, r .low-strong));
+              high-of = le-leb k (strengthAt G (z .higher)) (omega (arith, le, h, r .high-strong));
+            }
+
+        S : Spanned strong (size G) (length taken) (singletons (size G)) (labelsOf G taken)
+        S = spanned strong (size G) (allJoins G) (singletons (size G)) (singletons-roots (size G)) (λ i l h. rw (singletons-own (size G) i l) h) taken rest (g .whole) within
+
+        at-first : rootsOf strong (singletons (size G)) (size G) ≤ count strong (size G)
+        at-first = count-mono (λ i. strong i && root (singletons (size G)) i) strong (size G) (λ i l h. and-left (strong i) _ h)
 
     -- where nothing is left, all is taken
     pub grown-all : ((y : Join) → In y (allJoins G) → Gone p y) → taken ≡ forest G

@@ -28,6 +28,10 @@ bool-same true b f g = sym (f refl)
 bool-same false true f g = g refl
 bool-same false false f g = refl
 
+pub and-false : (a : Bool) → (a && false) ≡ false
+and-false true = refl
+and-false false = refl
+
 pub both : {a b : Bool} → a ≡ true → b ≡ true → (a && b) ≡ true
 both h k = rw (h, k)
 

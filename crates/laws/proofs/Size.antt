@@ -1,26 +1,28 @@
--- How long an index is: the forest has fewer joins than there are links, so an index of m links has at most 20 m bytes.
+-- How many joins can be taken: each takes a root away, so points of which one fewer than their number are taken are one tree. How long an index is: the forest has
+-- fewer joins than there are links, so an index of m links has at most 20 m bytes.
 use mathlib.Core.Path.{_≡_, refl, sym, ap, _∙_, subst}
 use mathlib.Core.Logic.{_⊎_, inl, inr, _≢_}
-use mathlib.Core.Bool.{Bool, true, false, cond}
-use mathlib.Core.List.{List, [], _∷_, _++_}
+use mathlib.Core.Bool.{Bool, true, false, cond, not, _&&_}
+use mathlib.Core.List.{List, [], _∷_, _++_, append-nil, head-eq-of-cons-eq, tail-eq-of-cons-eq}
 use mathlib.Core.List.{List·Memᴰ as In, List·Memᴰ·head as here, List·Memᴰ·tail as there}
 use Prim.Native.Nat.{ℕ, zero, suc, _+_, _*_, _≤_, _<_, min, max}
 use native.Mathlib.Nat.{le-refl, not-suc-le-zero}
 use native.Mathlib.Omega.{arith}
 use lib.Dec.{eqb, leb, leb·zero, ltb}
 use lib.ListN.{length, length-append}
-use borrow.Author.Tests.{eqb-true, eqb-false, eq-eqb, ne-eqb, ltb-true, ltb-false}
+use borrow.Author.Tests.{eqb-true, eqb-false, eq-eqb, ne-eqb, leb-true, leb-false, ltb-true, ltb-false}
 use Rattle.truss.specs.Limits.{noGroup, maxIndexBytes}
 use Rattle.truss.specs.Lists.{count, concatMap, range}
 use Rattle.truss.specs.Graph.{Link, Graph, Triangle, Has, linkNumber, Pair, graphOf}
 use Rattle.truss.specs.Strength.{weight}
 use Rattle.truss.specs.Chain.{StrongTriangle}
-use Rattle.truss.specs.Forest.{Join, join, allJoins, singletons, merge, sameComponent, kruskal, forest}
+use Rattle.truss.specs.Forest.{Join, join, allJoins, singletons, merge, sameComponent, kruskal, forest, components}
 use Rattle.truss.specs.Group.{groups}
 use Rattle.truss.specs.Index.{Index, index, encode, indexBytes, linkBytes, joinBytes, groupBytes}
 use Rattle.laws.proofs.Proper.{Proper}
-use Rattle.laws.proofs.Lists.{test, true-not-false, count-le}
+use Rattle.laws.proofs.Lists.{test, true-not-false, both, and-left, and-right, and-false, count-le}
 use Rattle.laws.proofs.Members.{in-filter, range-at, number-lt}
+use Rattle.laws.proofs.Lowering.{count-some-of}
 use Rattle.laws.proofs.Components.{label, low, high, relabel, relabel-cases, label-merge, heavy, kruskal-in}
 use Rattle.laws.proofs.Connected.{heavy-from, has-member}
 use Rattle.laws.proofs.Groups.{size}
@@ -57,9 +59,13 @@ pub record Roots (m : ℕ) (labels : List ℕ) : Type 0 where
 abbrev pub root : List ℕ → ℕ → Bool
 root labels a = eqb (label labels a) a
 
-pub singletons-roots : (m : ℕ) → Roots m (singletons m)
+-- at first each point is its own
+pub singletons-own : (m a : ℕ) → a < m → label (singletons m) a ≡ a
 unfolding range
-singletons-roots m = record { below = λ a l. omega (arith, range-at 0 m a 0 l); fixed = λ a l. ap (label (singletons m)) (range-at 0 m a 0 l ∙ omega arith) }
+singletons-own m a l = range-at 0 m a 0 l ∙ omega arith
+
+pub singletons-roots : (m : ℕ) → Roots m (singletons m)
+singletons-roots m = record { below = λ a l. omega (arith, singletons-own m a l); fixed = λ a l. ap (label (singletons m)) (singletons-own m a l) }
 
 module _ (m i j : ℕ) (labels : List ℕ) (li : i < m) (lj : j < m) (roots : Roots m labels) where
   x : ℕ
@@ -73,16 +79,16 @@ module _ (m i j : ℕ) (labels : List ℕ) (li : i < m) (lj : j < m) (roots : Ro
   x-root = go (Rattle.laws.proofs.Lists.test (leb (label labels i) (label labels j)))
     where
       go : (leb (label labels i) (label labels j) ≡ true) ⊎ (leb (label labels i) (label labels j) ≡ false) → label labels x ≡ x
-      go (inl c) = let e : x ≡ label labels i = omega (arith, borrow.Author.Tests.leb-true (label labels i) (label labels j) c) in rw e (roots .fixed i li)
-      go (inr c) = let e : x ≡ label labels j = omega (arith, borrow.Author.Tests.leb-false (label labels i) (label labels j) c) in rw e (roots .fixed j lj)
+      go (inl c) = let e : x ≡ label labels i = omega (arith, leb-true (label labels i) (label labels j) c) in rw e (roots .fixed i li)
+      go (inr c) = let e : x ≡ label labels j = omega (arith, leb-false (label labels i) (label labels j) c) in rw e (roots .fixed j lj)
 
   y-root : label labels y ≡ y
   unfolding y high
   y-root = go (Rattle.laws.proofs.Lists.test (leb (label labels i) (label labels j)))
     where
       go : (leb (label labels i) (label labels j) ≡ true) ⊎ (leb (label labels i) (label labels j) ≡ false) → label labels y ≡ y
-      go (inl c) = let e : y ≡ label labels j = omega (arith, borrow.Author.Tests.leb-true (label labels i) (label labels j) c) in rw e (roots .fixed j lj)
-      go (inr c) = let e : y ≡ label labels i = omega (arith, borrow.Author.Tests.leb-false (label labels i) (label labels j) c) in rw e (roots .fixed i li)
+      go (inl c) = let e : y ≡ label labels j = omega (arith, leb-true (label labels i) (label labels j) c) in rw e (roots .fixed j lj)
+      go (inr c) = let e : y ≡ label labels i = omega (arith, leb-false (label labels i) (label labels j) c) in rw e (roots .fixed i li)
 
   after : (a : ℕ) → label (merge i j labels) a ≡ relabel x y (label labels a)
   unfolding x y
@@ -126,9 +132,13 @@ module _ (m i j : ℕ) (labels : List ℕ) (li : i < m) (lj : j < m) (roots : Ro
   unfolding x y low high
   xy-singletons ne q = ne (omega arith)
 
-  -- a merge of two components takes one root away
-  pub merge-fewer : (label labels i ≢ label labels j) → count (root (merge i j labels)) m < count (root labels) m
-  merge-fewer ne = count-fewer (root (merge i j labels)) (root labels) m old y y<m (eq-eqb (label labels y) y y-root) (ne-eqb (label (merge i j labels) y) y new)
+  -- a merge of two components takes one root away: the greater, among any points that have it
+  merge-fewer : (p : ℕ → Bool) → p (high i j labels) ≡ true → (label labels i ≢ label labels j)
+      → count (λ a. p a && root (merge i j labels) a) m < count (λ a. p a && root labels a) m
+  unfolding y
+  merge-fewer p py ne =
+      count-fewer (λ a. p a && root (merge i j labels) a) (λ a. p a && root labels a) m (λ a l t. both (and-left (p a) _ t) (old a l (and-right (p a) _ t))) y y<m
+      (both py (eq-eqb (label labels y) y y-root)) (rw (ne-eqb (label (merge i j labels) y) y new) (and-false (p y)))
     where
       singletons-xy : x ≢ y
       singletons-xy = xy-singletons ne
@@ -152,31 +162,122 @@ module _ (m i j : ℕ) (labels : List ℕ) (li : i < m) (lj : j < m) (roots : Ro
               ap (label labels) ax ∙ x-root ∙ sym ax
           go (inr r) = sym (r .1) ∙ sym (after a) ∙ e
 
+-- ---- joins taken among some of the points, p: each takes one root of theirs away
+
+-- the root of each of these points is one of them
+abbrev pub Closed : (ℕ → Bool) → ℕ → List ℕ → Type 0
+Closed p m labels = (a : ℕ) → a < m → p a ≡ true → p (label labels a) ≡ true
+
+-- how many of these points are roots
+abbrev pub rootsOf : (ℕ → Bool) → List ℕ → ℕ → ℕ
+rootsOf p labels m = count (λ a. p a && root labels a) m
+
+-- both ends of a join are of these points
+pub record Within (p : ℕ → Bool) (m : ℕ) (z : Join) : Type 0 where
+  pub low-in : z .lower < m
+  pub high-in : z .higher < m
+  pub low-of : p (z .lower) ≡ true
+  pub high-of : p (z .higher) ≡ true
+
+-- with c of these joins taken there are so many roots fewer
+pub record Spanned (p : ℕ → Bool) (m c : ℕ) (labels labels′ : List ℕ) : Type 0 where
+  pub roots : Roots m labels′
+  pub closed : Closed p m labels′
+  pub sum : c + rootsOf p labels′ m ≤ rootsOf p labels m
+
+module _ (p : ℕ → Bool) (m : ℕ) where
+  either-of : (a b : ℕ) → p a ≡ true → p b ≡ true → (p (min a b) ≡ true) × (p (max a b) ≡ true)
+  either-of a b ha hb = go (test (leb a b))
+    where
+      go : (leb a b ≡ true) ⊎ (leb a b ≡ false) → (p (min a b) ≡ true) × (p (max a b) ≡ true)
+      go (inl c) = let l = leb-true a b c in let e : min a b ≡ a = omega arith in let f : max a b ≡ b = omega arith in (rw e ha, rw f hb)
+      go (inr c) = let l = leb-false a b c in let e : min a b ≡ b = omega arith in let f : max a b ≡ a = omega arith in (rw e hb, rw f ha)
+
+  module _ (z : Join) (labels : List ℕ) (W : Within p m z) (C : Closed p m labels) where
+    ends-of : (p (low (z .lower) (z .higher) labels) ≡ true) × (p (high (z .lower) (z .higher) labels) ≡ true)
+    unfolding low high
+    ends-of = either-of (label labels (z .lower)) (label labels (z .higher)) (C (z .lower) (W .low-in) (W .low-of)) (C (z .higher) (W .high-in) (W .high-of))
+
+    merge-closed : Closed p m (merge (z .lower) (z .higher) labels)
+    merge-closed a l h =
+        rw (label-merge (z .lower) (z .higher) labels a)
+        (go (relabel-cases (low (z .lower) (z .higher) labels) (high (z .lower) (z .higher) labels) (label labels a)))
+      where
+        go : ((label labels a ≡ high (z .lower) (z .higher) labels) × (relabel (low (z .lower) (z .higher) labels) (high (z .lower) (z .higher) labels) (label labels a) ≡ low (z .lower) (z .higher) labels))
+            ⊎ ((label labels a ≢ high (z .lower) (z .higher) labels) × (relabel (low (z .lower) (z .higher) labels) (high (z .lower) (z .higher) labels) (label labels a) ≡ label labels a))
+            → p (relabel (low (z .lower) (z .higher) labels) (high (z .lower) (z .higher) labels) (label labels a)) ≡ true
+        go (inl r) = rw (r .1) (ends-of .0)
+        go (inr r) = rw (r .1) (C a l h)
+
+  -- the first joins that are taken, among these points
+  pub spanned : (xs : List Join) (labels : List ℕ) → Roots m labels → Closed p m labels → (taken rest : List Join) → taken ++ rest ≡ kruskal labels xs → ((z : Join) → In z taken → Within p m z)
+      → Spanned p m (length taken) labels (components labels taken)
+  unfolding kruskal components
+  spanned xs labels roots closed [] rest e within = record { roots = roots; closed = closed; sum = omega arith }
+  spanned [] labels roots closed (t ∷ ts) rest e within = absurd (let l = ap length e in omega arith)
+  spanned (z ∷ zs) labels roots closed (t ∷ ts) rest e within =
+      go (test (sameComponent labels (z .lower) (z .higher))) (λ f. spanned zs labels roots closed (t ∷ ts) rest f within)
+      (λ f. spanned zs next (merge-roots m (t .lower) (t .higher) labels (W .low-in) (W .high-in) roots) (merge-closed t labels W closed) ts rest f (λ y k. within y (there k)))
+    where
+      W : Within p m t
+      W = within t (here refl)
+
+      next : List ℕ
+      next = merge (t .lower) (t .higher) labels
+
+      go : (sameComponent labels (z .lower) (z .higher) ≡ true) ⊎ (sameComponent labels (z .lower) (z .higher) ≡ false)
+          → (t ∷ (ts ++ rest) ≡ kruskal labels zs → Spanned p m (suc (length ts)) labels (components next ts))
+          → (ts ++ rest ≡ kruskal next zs → Spanned p m (length ts) next (components next ts)) → Spanned p m (suc (length ts)) labels (components next ts)
+      go (inl c) ih ih′ = ih (e ∙ rw c refl)
+      go (inr c) ih ih′ = at (ih′ (tail-eq-of-cons-eq f ∙ ap (λ (y : Join). kruskal (merge (y .lower) (y .higher) labels) zs) (sym same)))
+        where
+          f : t ∷ (ts ++ rest) ≡ z ∷ kruskal (merge (z .lower) (z .higher) labels) zs
+          f = e ∙ rw c refl
+
+          same : t ≡ z
+          same = head-eq-of-cons-eq f
+
+          apart : label labels (t .lower) ≢ label labels (t .higher)
+          apart = rw same (eqb-false (label labels (z .lower)) (label labels (z .higher)) c)
+
+          at : Spanned p m (length ts) next (components next ts) → Spanned p m (suc (length ts)) labels (components next ts)
+          at r = record {
+            roots = r .roots;
+            closed = r .closed;
+            sum = omega (arith, r .sum, merge-fewer m (t .lower) (t .higher) labels (W .low-in) (W .high-in) roots p (ends-of t labels W closed .1) apart);
+          }
+
+  -- where at most one root is left, all these points are in one component
+  pub one-root : {labels : List ℕ} → Roots m labels → Closed p m labels → rootsOf p labels m ≤ 1 → (a b : ℕ) → a < m → b < m → p a ≡ true → p b ≡ true → label labels a ≡ label labels b
+  one-root {labels} roots closed few a b la lb pa pb = go (test (eqb (label labels a) (label labels b)))
+    where
+      is-root : (c : ℕ) → c < m → p c ≡ true → (p (label labels c) && root labels (label labels c)) ≡ true
+      is-root c l h = both (closed c l h) (eq-eqb (label labels (label labels c)) (label labels c) (roots .fixed c l))
+
+      go : (eqb (label labels a) (label labels b) ≡ true) ⊎ (eqb (label labels a) (label labels b) ≡ false) → label labels a ≡ label labels b
+      go (inl c) = eqb-true (label labels a) (label labels b) c
+      go (inr c) =
+          let ne : label labels b ≢ label labels a = λ q. eqb-false (label labels a) (label labels b) c (sym q) in
+          let other : ℕ → Bool = λ d. (p d && root labels d) && not (eqb d (label labels a)) in
+          let one = count-some-of other (label labels b) m (omega (arith, roots .below b lb)) (both (is-root b lb pb) (rw (ne-eqb (label labels b) (label labels a) ne) refl)) in
+          let two = count-fewer other (λ d. p d && root labels d) m (λ d l t. and-left (p d && root labels d) _ t) (label labels a) (omega (arith, roots .below a la)) (is-root a la pa) (rw (is-root a la pa, eq-eqb (label labels a) (label labels a) refl) refl) in
+          absurd (omega (arith, few, one, two))
+
 -- ---- the forest has fewer joins than points
 
-pub kruskal-size : (m : ℕ) → 0 < m → (xs : List Join) (labels : List ℕ) → Roots m labels → ((z : Join) → In z xs → (z .lower < m) × (z .higher < m))
+kruskal-size : (m : ℕ) → 0 < m → (xs : List Join) (labels : List ℕ) → Roots m labels → ((z : Join) → In z xs → (z .lower < m) × (z .higher < m))
     → length (kruskal labels xs) + 1 ≤ count (root labels) m
-unfolding kruskal
-kruskal-size m pos [] labels roots ends =
-    let zero-root : root labels 0 ≡ true = eq-eqb (label labels 0) 0 (omega (arith, roots .below 0 pos)) in
-    omega (arith, count-fewer (λ a. false) (root labels) m (λ a l t. absurd (true-not-false t refl)) 0 pos zero-root refl)
-kruskal-size m pos (z ∷ zs) labels roots ends =
-    go (test (sameComponent labels (z .lower) (z .higher))) (kruskal-size m pos zs labels roots (λ w k. ends w (there k)))
-    (kruskal-size m pos zs (merge (z .lower) (z .higher) labels) (merge-roots m (z .lower) (z .higher) labels (e .0) (e .1) roots) (λ w k. ends w (there k)))
+kruskal-size m pos xs labels roots ends = omega (arith, S .sum, count-some-of (root all) 0 m pos (eq-eqb (label all 0) 0 (omega (arith, S .roots .below 0 pos))))
   where
-    e : (z .lower < m) × (z .higher < m)
-    e = ends z (here refl)
+    any : ℕ → Bool
+    any a = true
 
-    next : List ℕ
-    next = merge (z .lower) (z .higher) labels
+    all : List ℕ
+    all = components labels (kruskal labels xs)
 
-    go : (sameComponent labels (z .lower) (z .higher) ≡ true) ⊎ (sameComponent labels (z .lower) (z .higher) ≡ false)
-        → length (kruskal labels zs) + 1 ≤ count (root labels) m → length (kruskal next zs) + 1 ≤ count (root next) m
-        → length (cond (sameComponent labels (z .lower) (z .higher)) (kruskal labels zs) (z ∷ kruskal next zs)) + 1 ≤ count (root labels) m
-    go (inl c) ih ih′ = rw c ih
-    go (inr c) ih ih′ =
-        let ne : label labels (z .lower) ≢ label labels (z .higher) = eqb-false (label labels (z .lower)) (label labels (z .higher)) c in
-        rw c (omega (arith, merge-fewer m (z .lower) (z .higher) labels (e .0) (e .1) roots ne))
+    S : Spanned any m (length (kruskal labels xs)) labels all
+    S = spanned any m xs labels roots (λ a l h. refl) (kruskal labels xs) [] (append-nil (kruskal labels xs)) (λ z k.
+        let e = ends z (kruskal-in xs labels k) in record { low-in = e .0; high-in = e .1; low-of = refl; high-of = refl })
 
 module _ (G : Graph) where
   join-ends : (z : Join) → In z (allJoins G) → (z .lower < size G) × (z .higher < size G)
