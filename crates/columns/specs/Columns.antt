@@ -34,7 +34,7 @@ SUPPORT = 3
 abbrev pub STRENGTH : ℕ
 STRENGTH = 4
 
--- the links that are to be removed
+-- the links that are to be removed; at the end of the column, those that are left
 abbrev pub QUEUE : ℕ
 QUEUE = 5
 

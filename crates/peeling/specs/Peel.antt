@@ -2,7 +2,7 @@
 use mathlib.Core.Path.{_≡_, refl, sym, _∙_}
 use mathlib.Core.Logic.{_⊎_, inl, inr, _≢_}
 use mathlib.Core.List.{List}
-use Prim.Native.Nat.{ℕ, _+_, _≤_, _<_}
+use Prim.Native.Nat.{ℕ, _+_, _*_, _-_, _≤_, _<_}
 use native.Mathlib.Omega.{arith}
 use lib.ListN.{length, getD, set, length-set}
 use lib.Seq.{getD-set-same, getD-set-other}
@@ -10,71 +10,114 @@ use Rattle.truss.specs.Graph.{Graph, support, linkAt}
 use Rattle.truss.specs.Strength.{strength}
 use Rattle.laws.proofs.Lists.{support-le}
 use Rattle.laws.proofs.Numbers.{same-or-not, less-or-not}
-use Rattle.laws.proofs.Rounds.{truss-nested}
 use Rattle.laws.proofs.ProperLinks.{live}
-use Rattle.columns.specs.Columns.{cell, NEAR, SUPPORT, STRENGTH, QUEUE, FREE, noSupport}
+use Rattle.columns.specs.Columns.{cell, NEAR, SUPPORT, STRENGTH, QUEUE, FREE, COLUMNS, noSupport}
 use Rattle.columns.specs.Wiping.{Wiping, Cleaned, Zeroed}
 use Rattle.adjacency.specs.State.{Named, Near, Marks, Held, kept-held, kept-wiped, held-cleaned, held-none, held-trans, named-kept, named-held, whole, startAt}
-use Rattle.removal.specs.Queue.{Line}
 use Rattle.removal.specs.Left.{Left, left-whole, left-kept}
 use Rattle.removal.specs.Marks.{Stamps, stamps-first}
 use Rattle.removal.specs.State.{All, None, Level, Ready}
 use Rattle.removal.specs.Level.{level-start}
-use Rattle.peeling.specs.Bare.{Bare, given, some, ready-bare}
-use Rattle.peeling.specs.Drain.{DrainPre, Drained}
-use Rattle.peeling.specs.Seed.{SeedPre, Seeding, seeding-left, level-seeded, Least}
+use Rattle.peeling.specs.Bare.{First, Bare, given, some, ready-bare}
+use Rattle.peeling.specs.Rest.{Listed, Tops, Begun, Least, Rested, begun-before, listed-later, tops-few, few-same}
+use Rattle.peeling.specs.Seed.{AtLeast, HubPre, SeedPre, Seeding, seeding-none, seeding-left, level-seeded}
+use Rattle.peeling.specs.Drain.{DrainPre, Drained, anew, drain-start, drain-all}
 
-pub record LevelPre (G : Graph) (m n s tail : ℕ) (d : ℕ → ℕ) (w start stop mark : List ℕ) : Type 0 where
+pub record LevelPre (G : Graph) (m n s place : ℕ) (d : ℕ → ℕ) (w start stop mark : List ℕ) : Type 0 where
   pub named : Named G m n w
   pub left : Left G m w start stop
   pub stamps : Stamps G mark
   pub small : s < noSupport
   pub some : 1 ≤ s
-  pub ready : Ready G m (s + 2) tail d w
-  pub least : (y : ℕ) → y < m → cell w m STRENGTH y ≡ 0 → s ≤ cell w m SUPPORT y
+  pub ready : Ready G m (s + 2) 0 d w
+  pub least : AtLeast m s w
+  pub tops : Tops m place w
 
 abbrev pub LevelAsks : ℕ → ℕ → ℕ → ℕ → List ℕ → List ℕ → List ℕ → List ℕ → Type 0
-LevelAsks m n s tail w start stop mark = (G : Graph) × (d : ℕ → ℕ) × LevelPre G m n s tail d w start stop mark
+LevelAsks m n s place w start stop mark = (G : Graph) × (d : ℕ → ℕ) × LevelPre G m n s place d w start stop mark
 
-abbrev pub LevelGives : ℕ → ℕ → ℕ → ℕ → ℕ → List ℕ → List ℕ → List ℕ → List ℕ → List ℕ → List ℕ → List ℕ → Type 0
-LevelGives m n s tail r w w′ start stop stop′ mark mark′ =
-    (G : Graph) (d : ℕ → ℕ) → LevelPre G m n s tail d w start stop mark → (d′ : ℕ → ℕ) × Drained G m s r d′ w w′ start stop′ mark′
+abbrev pub LevelGives : ℕ → ℕ → ℕ → ℕ → List ℕ → List ℕ → List ℕ → List ℕ → List ℕ → List ℕ → List ℕ → Type 0
+LevelGives m n s place w w′ start stop stop′ mark mark′ =
+    (G : Graph) (d : ℕ → ℕ) → LevelPre G m n s place d w start stop mark → (d′ : ℕ → ℕ) × Drained G m s (m - place) d′ w w′ start stop′ mark′
 
-module _ {G : Graph} {m n s head : ℕ} {d : ℕ → ℕ} {w start stop mark : List ℕ} (P : LevelPre G m n s head d w start stop mark) where
-  begun : Level G m s None head head d w
+-- a link that is not removed has no strength yet
+waiting : {G : Graph} {m k tail : ℕ} {d : ℕ → ℕ} {w : List ℕ} → Ready G m k tail d w → (y : ℕ) → y < m → d y ≡ 0 → cell w m STRENGTH y ≡ 0
+waiting {G} {m} {k} {tail} {d} {w} R y l z = go (same-or-not (cell w m STRENGTH y) 0)
+  where
+    go : (cell w m STRENGTH y ≡ 0) ⊎ (cell w m STRENGTH y ≢ 0) → cell w m STRENGTH y ≡ 0
+    go (inl e) = e
+    go (inr e) = absurd (R .finished y l e z)
+
+-- nor has one that has a support
+supported : {G : Graph} {m k tail : ℕ} {d : ℕ → ℕ} {w : List ℕ} → Ready G m k tail d w → (y : ℕ) → y < m → cell w m SUPPORT y ≢ 0 → cell w m STRENGTH y ≡ 0
+supported {G} {m} {k} {tail} {d} {w} R y l n = go (same-or-not (d y) 0)
+  where
+    go : (d y ≡ 0) ⊎ (d y ≢ 0) → cell w m STRENGTH y ≡ 0
+    go (inl z) = waiting R y l z
+    go (inr z) = absurd (n (R .gone y l z))
+
+module _ {G : Graph} {m n s place : ℕ} {d : ℕ → ℕ} {w start stop mark : List ℕ} (P : LevelPre G m n s place d w start stop mark) where
+  begun : Level G m s None 0 0 d w
   begun = level-start (P .named) d (P .ready) s (omega arith) (P .least)
 
-  pub level-seeds : SeedPre G m n s head d w start stop
-  level-seeds = record { named = P .named; left = P .left; small = P .small; busy = λ y l t z. omega (arith, P .least y l t, z, P .some); queue = begun .queue }
+  pub level-hubs : HubPre G m n s w start stop
+  level-hubs = record { named = P .named; left = P .left; small = P .small }
 
-  pub level-drain : {tail : ℕ} {w₁ : List ℕ} → Seeding G m s All head tail d w w₁ → DrainPre G m n s head tail d w₁ start stop mark
-  level-drain {tail} {w₁} p = record {
-    named = named-kept (P .named) (p .kept);
-    left = seeding-left (P .named) (P .left) p;
-    stamps = P .stamps;
+  pub level-none : Seeding G m s None 0 d w w
+  level-none = seeding-none (P .least) (begun .queue)
+
+  busy : (y : ℕ) → y < m → d y ≡ 0 → cell w m SUPPORT y ≢ 0
+  busy y l z e = omega (arith, P .least y l (waiting (P .ready) y l z), P .some, e)
+
+  pub level-seeds : {first : ℕ} → Begun m place first → SeedPre G m n first s d w
+  level-seeds {first} b = record {
+    named = P .named;
     small = P .small;
-    level = level-seeded begun p;
+    some = P .some;
+    listed = listed-later b (P .tops) (λ y l n. n) (λ i l k. refl);
+    busy = busy;
+    all = m - place;
+    few = tops-few (P .tops);
+    before = begun-before b;
   }
 
-  pub level-done : {tail r : ℕ} {d′ : ℕ → ℕ} {w₁ w₂ stop′ mark′ : List ℕ} → Seeding G m s All head tail d w w₁ → Drained G m s r d′ w₁ w₂ start stop′ mark′
-      → Drained G m s r d′ w w₂ start stop′ mark′
-  level-done p e = record { ready = e .ready; above = e .above; held = held-trans (kept-held (p .kept)) (e .held); left = e .left; stamps = e .stamps }
+  module _ {tail : ℕ} {w₁ : List ℕ} (p : Seeding G m s All tail d w w₁) where
+    pub level-drain : DrainPre G m n s tail (m - place) d w₁ start stop mark
+    level-drain = record {
+      named = named-kept (P .named) (p .kept);
+      left = seeding-left (P .named) (P .left) p;
+      stamps = P .stamps;
+      small = P .small;
+      level = level-seeded begun p;
+      busy = λ y l z e. busy y l z (sym (p .supports y l) ∙ e);
+      few = few-same (p .supports) (tops-few (P .tops));
+    }
+
+    pub level-done : {d′ : ℕ → ℕ} {w₂ stop′ mark′ : List ℕ} → Drained G m s (m - place) d′ w₁ w₂ start stop′ mark′ → Drained G m s (m - place) d′ w w₂ start stop′ mark′
+    level-done e = record {
+      ready = e .ready;
+      above = e .above;
+      held = held-trans (kept-held (p .kept)) (e .held);
+      left = e .left;
+      stamps = e .stamps;
+      falls = λ y l n z. e .falls y l n (p .supports y l ∙ z);
+      after = λ i l k. e .after i l k ∙ p .after i (omega (arith, drain-all level-drain (drain-start level-drain))) k;
+    }
 
 -- ---- all levels, from the first count and the strengths of the links in no triangle
 
-pub record LevelsPre (G : Graph) (m n tail : ℕ) (w start stop mark : List ℕ) : Type 0 where
+pub record LevelsPre (G : Graph) (m n : ℕ) (w start stop mark : List ℕ) : Type 0 where
   pub named : Named G m n w
   pub left : Left G m w start stop
   pub stamps : Stamps G mark
-  pub line : Line m tail (cell w m STRENGTH) (cell w m QUEUE)
   pub triangles : (y : ℕ) → y < m → cell w m SUPPORT y ≡ support (G .n) (whole G) (linkAt G y)
-  pub lone : (y : ℕ) → y < m → cell w m SUPPORT y ≡ 0 → cell w m STRENGTH y ≡ 2
-  pub shared : (y : ℕ) → y < m → cell w m SUPPORT y ≢ 0 → cell w m STRENGTH y ≡ 0
+  pub first : (y : ℕ) → y < m → First (cell w m SUPPORT y) (cell w m STRENGTH y)
 
-pub record Peeling (G : Graph) (m s tail : ℕ) (d : ℕ → ℕ) (w₀ w start stop mark : List ℕ) : Type 0 where
-  pub ready : Ready G m (s + 2) tail d w
+pub record Peeling (G : Graph) (m s place : ℕ) (d : ℕ → ℕ) (w₀ w start stop mark : List ℕ) : Type 0 where
+  pub ready : Ready G m (s + 2) 0 d w
   pub some : 1 ≤ s
-  pub least : (y : ℕ) → y < m → cell w m STRENGTH y ≡ 0 → s ≤ cell w m SUPPORT y
+  pub least : AtLeast m s w
+  pub tops : Tops m place w
   pub held : Held m FREE w₀ w
   pub left : Left G m w start stop
   pub stamps : Stamps G mark
@@ -85,45 +128,54 @@ pub record Peeled (G : Graph) (m : ℕ) (w₀ w : List ℕ) : Type 0 where
   pub supports : (y : ℕ) → y < m → cell w m SUPPORT y ≡ 0
   pub held : Held m FREE w₀ w
 
-abbrev pub LevelsAsk : ℕ → ℕ → ℕ → List ℕ → List ℕ → List ℕ → List ℕ → Type 0
-LevelsAsk m n tail w start stop mark = (G : Graph) × LevelsPre G m n tail w start stop mark
+abbrev pub LevelsAsk : ℕ → ℕ → List ℕ → List ℕ → List ℕ → List ℕ → Type 0
+LevelsAsk m n w start stop mark = (G : Graph) × LevelsPre G m n w start stop mark
 
-abbrev pub LevelsTurn : ℕ → ℕ → ℕ → ℕ → ℕ → List ℕ → List ℕ → List ℕ → List ℕ → List ℕ → List ℕ → List ℕ → Type 0
-LevelsTurn m n s tail₀ tail w₀ w start stop₀ stop mark₀ mark = (G : Graph) → LevelsPre G m n tail₀ w₀ start stop₀ mark₀ → (d : ℕ → ℕ) × Peeling G m s tail d w₀ w start stop mark
+abbrev pub LevelsTurn : ℕ → ℕ → ℕ → ℕ → List ℕ → List ℕ → List ℕ → List ℕ → List ℕ → List ℕ → List ℕ → Type 0
+LevelsTurn m n s place w₀ w start stop₀ stop mark₀ mark = (G : Graph) → LevelsPre G m n w₀ start stop₀ mark₀ → (d : ℕ → ℕ) × Peeling G m s place d w₀ w start stop mark
 
-abbrev pub LevelsGive : ℕ → ℕ → ℕ → List ℕ → List ℕ → List ℕ → List ℕ → List ℕ → Type 0
-LevelsGive m n tail₀ w₀ w start stop₀ mark₀ = (G : Graph) → LevelsPre G m n tail₀ w₀ start stop₀ mark₀ → Peeled G m w₀ w
+abbrev pub LevelsGive : ℕ → ℕ → List ℕ → List ℕ → List ℕ → List ℕ → List ℕ → Type 0
+LevelsGive m n w₀ w start stop₀ mark₀ = (G : Graph) → LevelsPre G m n w₀ start stop₀ mark₀ → Peeled G m w₀ w
 
-raised : {G : Graph} {m k : ℕ} (k′ : ℕ) {tail : ℕ} {d : ℕ → ℕ} {w : List ℕ} → k ≤ k′ → Ready G m k tail d w → Ready G m k′ tail d w
-raised {G} {m} {k} k′ l R = record {
-  line = R .line;
-  ended = R .ended;
-  finished = R .finished;
-  gone = R .gone;
-  known = R .known;
-  supports = R .supports;
-  covers = λ e h. R .covers e (truss-nested G k k′ l e h);
+-- the list of the links that are left is made anew
+rested-left : {G : Graph} {m n place best : ℕ} {w w′ start stop : List ℕ} → Named G m n w → Rested m place best w w′ → Left G m w start stop → Left G m w′ start stop
+rested-left N R L = left-kept N L (R .kept .entries) (λ y l n z. n (R .supports y l ∙ z))
+
+pub rested-levels : {G : Graph} {m n place best : ℕ} {w w′ start stop mark : List ℕ} → Rested m place best w w′ → LevelsPre G m n w start stop mark → LevelsPre G m n w′ start stop mark
+rested-levels R P = record {
+  named = named-kept (P .named) (R .kept);
+  left = rested-left (P .named) R (P .left);
+  stamps = P .stamps;
+  triangles = λ y l. R .supports y l ∙ P .triangles y l;
+  first = λ y l. rw (R .supports y l, R .strengths y l) (P .first y l);
 }
 
-module _ {G : Graph} {m n tail₀ : ℕ} {w₀ start stop₀ mark₀ : List ℕ} (P : LevelsPre G m n tail₀ w₀ start stop₀ mark₀) where
-  pub levels-start : {s : ℕ} → Least m m s w₀ → (d : ℕ → ℕ) × Peeling G m s tail₀ d w₀ w₀ start stop₀ mark₀
-  levels-start {s} L = (
+pub rested-peeled : {G : Graph} {m place best : ℕ} {w w′ w″ : List ℕ} → Rested m place best w w′ → Peeled G m w′ w″ → Peeled G m w w″
+rested-peeled R D = record { strengths = D .strengths; supports = D .supports; held = held-trans (kept-held (R .kept)) (D .held) }
+
+module _ {G : Graph} {m n : ℕ} {w₀ start stop₀ mark₀ : List ℕ} (P : LevelsPre G m n w₀ start stop₀ mark₀) where
+  pub levels-start : {s place : ℕ} → Tops m place w₀ → Least m s w₀ → (d : ℕ → ℕ) × Peeling G m s place d w₀ w₀ start stop₀ mark₀
+  levels-start {s} {place} T L = (
     given m w₀,
     record {
-      ready = raised (s + 2) (omega (arith, up)) (ready-bare (P .named) (P .triangles) (P .lone) (P .shared) (P .line));
+      ready = anew (s + 2) (omega (arith, up)) (λ y l. refl) (λ y l. refl) (ready-bare (P .named) (P .triangles) (P .first));
       some = up;
-      least = L .low;
+      least = λ y l z. L .low y l (λ e. omega (arith, e, triangle y l z));
+      tops = T;
       held = held-none m FREE w₀;
       left = P .left;
       stamps = P .stamps;
     },
   )
     where
-      up : 1 ≤ s
-      up = L .greatest 1 (omega arith) (some (P .named) (P .triangles) (P .lone) (P .shared))
+      triangle : (y : ℕ) → y < m → cell w₀ m STRENGTH y ≡ 0 → 1 ≤ cell w₀ m SUPPORT y
+      triangle = some (P .named) (P .triangles) (P .first)
 
-  module _ {s tail : ℕ} {d : ℕ → ℕ} {w stop mark : List ℕ} (D : Peeling G m s tail d w₀ w start stop mark) where
-    pub levels-level : s < noSupport → LevelPre G m n s tail d w start stop mark
+      up : 1 ≤ s
+      up = L .greatest 1 (omega arith) (λ y l n. omega arith)
+
+  module _ {s place : ℕ} {d : ℕ → ℕ} {w stop mark : List ℕ} (D : Peeling G m s place d w₀ w start stop mark) where
+    pub levels-level : s < noSupport → LevelPre G m n s place d w start stop mark
     levels-level l = record {
       named = named-held (P .named) (D .held);
       left = D .left;
@@ -132,18 +184,33 @@ module _ {G : Graph} {m n tail₀ : ℕ} {w₀ start stop₀ mark₀ : List ℕ}
       some = D .some;
       ready = D .ready;
       least = D .least;
+      tops = D .tops;
     }
 
-    pub levels-next : {s′ tail′ : ℕ} {d′ : ℕ → ℕ} {w′ stop′ mark′ : List ℕ} → s < noSupport → Drained G m s tail′ d′ w w′ start stop′ mark′ → Least m m s′ w′
-        → Peeling G m s′ tail′ d′ w₀ w′ start stop′ mark′
-    levels-next {s′} l e L =
-        let up : s + 1 ≤ s′ = L .greatest (s + 1) (omega arith) (e .above) in
-        record {
-          ready = raised (s′ + 2) (omega arith) (e .ready);
-          some = omega arith;
-          least = L .low;
-          held = held-trans (D .held) (e .held);
-          left = e .left;
+    module _ {d′ : ℕ → ℕ} {w′ stop′ mark′ : List ℕ} (e : Drained G m s (m - place) d′ w w′ start stop′ mark′) where
+      N : Named G m n w′
+      N = named-held (P .named) (held-trans (D .held) (e .held))
+
+      pub levels-size : length w′ ≡ COLUMNS * m
+      levels-size = N .size
+
+      pub levels-list : {first : ℕ} → Begun m place first → Listed m first w′
+      levels-list b = listed-later b (D .tops) (e .falls) (e .after)
+
+      module _ (l : s < noSupport) {s′ place′ : ℕ} {w″ : List ℕ} (R : Rested m place′ s′ w′ w″) where
+        pub levels-rise : s + 1 ≤ s′
+        levels-rise = R .least .greatest (s + 1) (omega arith) (λ y k n.
+            let h = R .supports y k in
+            rw h (e .above y k (supported (e .ready) y k (λ z. n (h ∙ z)))))
+
+        pub levels-next : Peeling G m s′ place′ d′ w₀ w″ start stop′ mark′
+        levels-next = record {
+          ready = anew (s′ + 2) (omega (arith, levels-rise)) (R .supports) (R .strengths) (e .ready);
+          some = omega (arith, levels-rise);
+          least = λ y k z. R .least .low y k (λ q. omega (arith, q, R .supports y k, e .above y k (sym (R .strengths y k) ∙ z)));
+          tops = R .tops;
+          held = held-trans (D .held) (held-trans (e .held) (kept-held (R .kept)));
+          left = rested-left N R (e .left);
           stamps = e .stamps;
         }
 
@@ -199,23 +266,21 @@ pub ended-all : {a n : ℕ} {start stop₀ stop : List ℕ} → a ≡ n → Ende
 ended-all q h = rw q at h
 
 module _ {G : Graph} {m n : ℕ} {w start mark : List ℕ} (P : PeelPre G m n w start mark) where
-  module _ {stop₀ stop : List ℕ} (wide : length stop₀ ≡ n) (E : Ended n start stop₀ stop) {tail : ℕ} {w₁ : List ℕ} (B : Bare m m tail w w₁) where
-    pub peel-levels : LevelsPre G m n tail w₁ start stop mark
+  module _ {stop₀ stop : List ℕ} (wide : length stop₀ ≡ n) (E : Ended n start stop₀ stop) {w₁ : List ℕ} (B : Bare m m w w₁) where
+    pub peel-levels : LevelsPre G m n w₁ start stop mark
     peel-levels = record {
       named = named-kept (P .named) (B .kept);
       left =
           left-kept (P .named) (left-whole (P .near) (E .same ∙ wide ∙ sym (P .named .accounts)) (λ a l. E .is a (omega (arith, P .named .accounts)))) (B .kept .entries) (λ y l n z.
           n (B .supports y l ∙ z));
       stamps = stamps-first (P .named) (P .marks);
-      line = B .line;
       triangles = λ y l. B .supports y l ∙ P .triangles y l;
-      lone = B .lone;
-      shared = B .shared;
+      first = B .first;
     }
 
-  pub peel-done : {tail : ℕ} {w₁ w₂ w₃ w₄ mark₁ mark₂ : List ℕ} → Bare m m tail w w₁ → Peeled G m w₁ w₂ → Cleaned m NEAR SUPPORT w₂ w₃ → Wiping m QUEUE m w₃ w₄ → Zeroed n mark₁ mark₂
+  pub peel-done : {w₁ w₂ w₃ w₄ mark₁ mark₂ : List ℕ} → Bare m m w w₁ → Peeled G m w₁ w₂ → Cleaned m NEAR SUPPORT w₂ w₃ → Wiping m QUEUE m w₃ w₄ → Zeroed n mark₁ mark₂
       → PeelCleared G m n w w₄ mark₂
-  peel-done {tail} {w₁} {w₂} {w₃} {w₄} B R C U Z = record {
+  peel-done {w₁} {w₂} {w₃} {w₄} B R C U Z = record {
     strengths = λ y l. U .others STRENGTH y (omega arith) l ∙ C .above STRENGTH y (omega arith) l ∙ R .strengths y l;
     used = λ c y a b ne l. used c y a b ne l (less-or-not c SUPPORT) (same-or-not c QUEUE);
     held = held-trans (kept-held (B .kept)) (held-trans (R .held) (held-trans (held-cleaned C (omega arith) (omega arith)) (kept-held (kept-wiped U (omega arith) (omega arith)))));

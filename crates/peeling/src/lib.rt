@@ -1,3 +1,4 @@
 // From supports to strengths, by peeling.
 pub mod peel;
+mod rest;
 mod seed;

@@ -202,10 +202,6 @@ module _ {G : Graph} {m s : ℕ} {Met : ℕ → Type 0} {head tail : ℕ} {σ τ
       go : Queue G m s Met head (tail + 1) (put σ x 0) (put τ x (s + 2)) (put q tail x) d → tail + 1 ≤ m
       go P = pigeonhole m (tail + 1) (put q tail x) (P .within) (λ i j a b e. P .once i j a b e)
 
-  -- and where there is none, all links are in it
-  pub queue-full : m ≤ tail → (x : ℕ) → x < m → τ x ≢ 0
-  queue-full l x k z = omega (arith, queue-room x k z)
-
   -- the first is removed
   pub queue-done : {σ′ τ′ q′ d′ : ℕ → ℕ} → head < tail → Upd m σ σ′ (q head) 0 → Same m τ τ′ → Same m q q′ → Upd m d d′ (q head) 1
       → Queue G m s Met (head + 1) tail σ′ τ′ q′ d′

@@ -9,11 +9,11 @@ use Rattle.peeling.proofs.peel.drain.Statement.{statement}
 use Rattle.peeling.proofs.peel.drain.Tie as tie
 
 abbrev Inv-loop : tie.InvT-loop
-Inv-loop w₀ m n start stop₀ mark₀ s from until head₀ tail₀ end₀ at₀ w stop mark head tail end at =
-    (length w ≡ length w₀) × (length stop ≡ length stop₀) × (length mark ≡ length mark₀) × Pending m tail end × DrainTurns m n s from until head tail at w₀ w start stop₀ stop mark₀ mark
+Inv-loop w₀ m n start stop₀ mark₀ s until all head₀ tail₀ end₀ at₀ w stop mark head tail end at =
+    (length w ≡ length w₀) × (length stop ≡ length stop₀) × (length mark ≡ length mark₀) × Pending all tail end × DrainTurns m n s until all head tail at w₀ w start stop₀ stop mark₀ mark
 
 abbrev μ-loop : tie.MeasureT-loop
-μ-loop w₀ m n start stop₀ mark₀ s from until head₀ tail₀ end₀ at₀ w stop mark head tail end at = m - head
+μ-loop w₀ m n start stop₀ mark₀ s until all head₀ tail₀ end₀ at₀ w stop mark head tail end at = m - head
 
 pending-requires : tie.Need-pending-requires Inv-loop μ-loop
 pending-requires c κs = search needs
