@@ -30,8 +30,8 @@ fn seed_one(w: &mut [u32], m: usize, e: usize, s: usize, tail: usize) -> usize
     push(w, m, e, s, tail)
 }
 
-// An account whose list has more links is a hub. Its links are seeded together, so that they are removed together and its list is marked once, not for each of them. No number of
-// the documents: a shorter list is marked in about the time that the walk of a removal takes.
+// An account whose list has more links is a hub. Its links are seeded together, so that they are removed together and its list is marked once, not for each of them. Any
+// number is right; this one is tried, not searched for.
 const HUB: usize = 128;
 
 // The links of support s at account a.
