@@ -1,3 +1,1 @@
--- What the walks share.
-pub mod Again
-pub mod Local
+pub mod RowBack

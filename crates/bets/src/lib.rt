@@ -1,5 +1,7 @@
 // A limit tried on a day's bets. From C the records are lent as bytes, nine to each, and margins are written as eight bytes each (`bytes`); here records are lent as a slice of structs, which is
 // copied into such a row of bytes, and margins are written as signed numbers. Both are tried by `trial`.
+#![tactic(auto)]
+
 ghost use Rattle.std.specs.Prelude.{◌≡◌, ◌+◌, ◌*◌, ◌≤◌, min, length};
 ghost use Rattle.truss.specs.Limits.{record_length};
 ghost use Rattle.columns.specs.Wiping.{zeros};
@@ -23,7 +25,7 @@ const MOST_BETS: usize = MOST_RECORDS + 1;
 const ROW_BYTES: usize = MOST_BETS * RECORD_BYTES;
 
 // A record of a day: a bet, if kind is 0, of a stake on an account; else a new limit.
-#[derive(Drop)]
+#[derive(Clone, Copy)]
 pub struct Bet {
     pub kind: u8,
     pub account: u32,

@@ -1,31 +1,30 @@
 // A links file on standard input, its index on standard output; a refusal prints `refused`, number and place. No accepted file is longer than 10,246 bytes, and the
 // first fault of a longer one lies within its first 10,247, so what stands beyond the buffer makes no difference.
-use libc::{STDIN_FILENO, STDOUT_FILENO};
+#![tactic(auto)]
 
-fn print_refusal(number: u32, place: u32) {
-    io::write_all(STDOUT_FILENO, b"refused ");
-    io::print_decimal(STDOUT_FILENO, number as u64);
-    io::write_all(STDOUT_FILENO, b" ");
-    io::print_decimal(STDOUT_FILENO, place as u64);
-    io::write_all(STDOUT_FILENO, b"\n");
-}
+use std::io;
+use std::io::{Read, Write};
 
-// The work, over slices, so that main has no index of its own.
-fn work(links: &[u8], out: &mut [u8]) {
-    let r = index::build::build(links, out);
+// More than the longest file.
+const ROOM: u64 = 65536;
+
+// The answer to a links file: its index, or the refusal's line.
+fn answer<W: Write + Drop>(mut out: W, links: &[u8], index: &mut [u8]) -> io::Result<()> {
+    let r = index::build::build(links, index);
     if r.refusal != 0 {
-        print_refusal(r.refusal, r.value);
-        return;
+        return writeln!(out, "refused {} {}", r.refusal, r.value);
     }
     let len = r.value as usize;
-    if len <= out.len() {
-        io::write_all(STDOUT_FILENO, &out[..len]);
+    if len <= index.len() {
+        return out.write_all(&index[..len]);
     }
+    Ok(())
 }
 
-fn main() {
-    let mut input = io::large_buffer();
-    let mut out = io::large_buffer();
-    let n = io::read_full(STDIN_FILENO, &mut input);
-    work(&input[..n], &mut out);
+fn main(rt: HostRuntime) -> io::Result<()> {
+    let alloc = rt.alloc();
+    let mut links = Vec::new(alloc);
+    rt.reader().take(ROOM).read_to_end(&mut links)?;
+    let mut index = Vec::from_elem(alloc, 0u8, ROOM as usize)?;
+    answer(io::writer(&rt), &links, &mut index)
 }

@@ -10,7 +10,7 @@ use columns::{COLUMNS, HALF, KEY, account_room, get};
 use thirds::find::find_pair;
 
 // A chain: how many triangles it has, and the link with which it begins.
-#[derive(Drop)]
+#[derive(Clone, Copy)]
 struct Way {
     count: usize,
     from: usize,

@@ -13,7 +13,7 @@ pub const NEAREST: usize = 3;
 pub const SIDES: usize = 4;
 
 // Where the search stands: the end of the queue, and the account that the marks are at.
-#[derive(Drop)]
+#[derive(Clone, Copy)]
 struct Front {
     tail: usize,
     at: usize,

@@ -1,5 +1,7 @@
 // A link put in or withdrawn: from an index to the index of the altered links, in a second buffer. The index is checked, the keys of the altered links are written into
 // the work space, and from there on it is a build. No tally moves: a change is no question.
+#![tactic(auto)]
+
 ghost use Rattle.std.specs.Prelude.{◌≡◌, ◌*◌, ◌≤◌, length};
 ghost use Rattle.truss.specs.Limits.{max_links};
 ghost use Rattle.truss.specs.Change.{put_in, withdraw};

@@ -1,4 +1,6 @@
 // The work space: sixteen columns of m numbers in one lent slice. Entry i of column c stands at c * m + i.
+#![tactic(auto)]
+
 ghost use Rattle.std.specs.Prelude.{◌+◌, ◌*◌, ◌<◌, ◌≤◌, ◌≡◌, length, get_or};
 ghost use Rattle.truss.specs.Limits.{max_accounts, max_links};
 ghost use Rattle.columns.specs.Columns.{cell, store, entry, store_entry, COLUMNS, link_bound, entry_bound};

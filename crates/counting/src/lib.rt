@@ -2,6 +2,8 @@
 // for itself. Accounts are taken one after the other, each in a round of its own, and a group counts an account at the first touch of its round: column 3 has the
 // last round that touched it. What a round touched it touched with all above, so the way up ends there. The links with one lower account are neighbours in the
 // index, and those with one higher account are put in a chain.
+#![tactic(auto)]
+
 ghost use Rattle.std.specs.Prelude.{◌≡◌, ◌+◌, ◌*◌, ◌<◌, ◌≤◌, length};
 ghost use Rattle.truss.specs.Limits.{max_accounts};
 ghost use Rattle.columns.specs.Columns.{cell, COLUMNS};

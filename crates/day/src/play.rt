@@ -85,7 +85,7 @@ fn take_bet(
 }
 
 // What a record comes to: its byte, and the limit after it.
-#[derive(Drop)]
+#[derive(Clone, Copy)]
 struct After {
     byte: u8,
     limit: usize,

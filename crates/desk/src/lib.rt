@@ -1,5 +1,7 @@
 // The desk, which counts the questions that were answered, for each window. A host lends its record as bytes; here it is a struct, which is lent to one thin
 // function.
+#![tactic(auto)]
+
 ghost use Rattle.std.specs.Prelude.{[], ◌≡◌, ◌<◌, ◌≤◌, length};
 ghost use Rattle.truss.specs.Limits.{desk_length, tally_length, windows};
 ghost use Rattle.truss.specs.Call.{next_tally, put_tally, tally_bytes, tally_in};
@@ -13,7 +15,7 @@ use question::answer::{Question, answer_from};
 use wire::{paste, wide};
 
 // The desk record: for each window, how many of its questions were answered, resting at the greatest number.
-#[derive(Drop)]
+#[derive(Clone, Copy)]
 struct Desk {
     tallies: [u32; WINDOWS],
 }
@@ -66,7 +68,7 @@ fn ask(
 }
 
 // A reply, and the desk after it.
-#[derive(Drop)]
+#[derive(Clone, Copy)]
 struct Counted {
     reply: Reply,
     desk: Desk,

@@ -8,7 +8,7 @@ use Rattle.laws.proofs.UnionFind.{Down}
 use Rattle.laws.proofs.Lists.{or_left_false}
 use Rattle.laws.proofs.Components.{label}
 use Rattle.laws.proofs.Unions.{Keeps}
-use Rattle.laws.proofs.Groups.{size, strength_at}
+use Rattle.laws.proofs.Groups.{strength_at}
 use Rattle.laws.proofs.GroupPlaces.{root_in}
 use Rattle.columns.specs.Columns.{cell, store, COLUMNS}
 use Rattle.laws.proofs.Numbers.{same_or_not}

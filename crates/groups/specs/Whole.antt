@@ -3,7 +3,6 @@ use Rattle.std.specs.Prelude.{◌≡◌, refl, ◌⊎◌, ◌≢◌, List, ℕ, 
 use Rattle.std.proofs.Common.{sym, ap, ◌∙◌, inl, inr, arith}
 use Rattle.truss.specs.Limits.{max_accounts, no_group}
 use Rattle.truss.specs.Graph.{Graph}
-use Rattle.truss.specs.Strength.{strength}
 use Rattle.truss.specs.Forest.{Join, join, forest}
 use Rattle.truss.specs.Group.{groups}
 use Rattle.truss.specs.Index.{GroupRow, index, group_row}

@@ -14,7 +14,7 @@ use forest::rows::rows;
 use limits::LEAST_LEVEL;
 
 // How many joins and groups the columns hold.
-#[derive(Drop)]
+#[derive(Clone, Copy)]
 pub struct Sizes {
     pub joins: usize,
     pub groups: usize,

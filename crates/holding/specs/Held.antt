@@ -4,9 +4,7 @@ use Rattle.std.proofs.Math.Path.{refl}
 use Rattle.std.proofs.Common.{sym, ap, ◌∙◌, subst, inl, inr, arith, eq-eqb, eqb-true}
 use Rattle.std.proofs.Math.Bool.{true, false}
 use mathlib.Core.List.{Memᴰ as In}
-use Rattle.truss.specs.Lists.{all}
 use Rattle.truss.specs.Graph.{Graph, link_at, ends}
-use Rattle.truss.specs.Group.{groups}
 use Rattle.truss.specs.Index.{index}
 use Rattle.truss.specs.Stored.{Leads, up}
 use Rattle.truss.specs.Stored.{here as arrived}

@@ -15,7 +15,7 @@ use Rattle.wire.specs.Writing.{written, written_start, up_to, up_to_rows, up_to_
 use Rattle.index.specs.declared.Reply.{Reply as CReply}
 use Rattle.index.specs.Build.{Replies, replied, reply_in, reply_with, reply_same}
 use Rattle.index.specs.Strong.{strong_pair, AllStrong}
-use Rattle.index.specs.Open.{Opened, pairs_in, pairs_count, pairs_of_index, pairs_accepted, takes, whole_strong}
+use Rattle.index.specs.Open.{pairs_in, pairs_count, pairs_of_index, pairs_accepted, takes, whole_strong}
 
 -- THE PROMISE of a reading: its reply and every byte of the lent buffer are what the definition gives
 abbrev pub ReadGives : List ℕ → List ℕ → CReply → List ℕ → Type 0

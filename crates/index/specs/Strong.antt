@@ -12,7 +12,7 @@ use Rattle.truss.specs.Limits.{max_accounts, max_links, no_group}
 use Rattle.truss.specs.Lists.{concat_map, range}
 use Rattle.truss.specs.Graph.{Link, Pair, Graph, link, link_before, graph_of, link_at, member}
 use Rattle.truss.specs.Refusal.{passed}
-use Rattle.truss.specs.Record.{kind_index_head, kind_head, kind_strong_link, body_length, holds_body, byte_at, field_at, head_bytes, end_bytes, whole}
+use Rattle.truss.specs.Record.{kind_index_head, kind_strong_link, body_length, holds_body, byte_at, field_at, head_bytes, end_bytes, whole}
 use Rattle.truss.specs.LinksFile.{read_head}
 use Rattle.truss.specs.Index.{LinkRow, link_bytes, join_bytes, group_bytes, encode, index, index_bytes, link_row}
 use Rattle.truss.specs.Stored.{row_at}

@@ -1,4 +1,6 @@
 // The build, a links file into its index; the opening, whether bytes are an index and what is known of it; the reading, an index back into its links file.
+#![tactic(auto)]
+
 ghost use Rattle.std.specs.Prelude.{◌≡◌};
 ghost use Rattle.truss.specs.Call.{done_with};
 ghost use Rattle.index.specs.Build.{Replies, reply_in};
@@ -10,7 +12,7 @@ mod solve;
 
 // What a call gives back: refusal 0 and a value, and a second number where the answer has two; or a refusal's number and its place as the value. The others are 0.
 #[repr(C)]
-#[derive(Drop)]
+#[derive(Clone, Copy)]
 pub struct Reply {
     pub refusal: u32,
     pub value: u32,

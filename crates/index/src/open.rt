@@ -20,7 +20,7 @@ use linksfile::{FileHead, read_head};
 use wire::{INDEX_HEAD, STRONG_LINK, field_at, whole_record};
 
 // What is known of an index: how many accounts and links it has, where its groups stand, and how many they are.
-#[derive(Drop)]
+#[derive(Clone, Copy)]
 pub struct Outline {
     pub n: usize,
     pub m: usize,
@@ -28,7 +28,7 @@ pub struct Outline {
     pub groups: usize,
 }
 
-#[derive(Drop)]
+#[derive(Clone, Copy)]
 pub enum Opening {
     NoIndex,
     Index(Outline),

@@ -1,9 +1,7 @@
 -- Comparing bytes with records, one after the other: when all of them stand there, and when not. Assumes nothing.
-use Rattle.std.specs.Prelude.{◌≡◌, ◌⊎◌, ◌≢◌, List, [], ◌∷◌, ◌++◌, ℕ, zero, suc, ◌+◌, ◌*◌, ◌-◌, ◌≤◌, ◌<◌, length, get_or, take, drop}
+use Rattle.std.specs.Prelude.{◌≡◌, List, [], ◌∷◌, ◌++◌, ℕ, zero, suc, ◌+◌, ◌*◌, ◌-◌, ◌≤◌, ◌<◌, length, take, drop}
 use Rattle.std.proofs.Math.Path.{refl}
-use Rattle.std.proofs.Common.{sym, ap, ap₂, ◌∙◌, subst, inl, inr, append_assoc, append-nil, suc-mul, mul-le-mul_right, arith, length-append, get_or-append-add, take_at, drop_at, take-add, take-take}
-use Rattle.std.proofs.Math.ListN.{get_or-append}
-use Rattle.laws.proofs.Numbers.{same_or_not}
+use Rattle.std.proofs.Common.{sym, ap, ap₂, ◌∙◌, subst, suc-mul, mul-le-mul_right, arith, take_at, drop_at, take-add, take-take}
 use Rattle.wire.specs.Writing.{up_to, up_to_more, up_to_length}
 use Rattle.wire.specs.RowBytes.{up_to_split}
 

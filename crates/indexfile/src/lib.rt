@@ -1,4 +1,6 @@
 // The index's bytes: written from the columns of a solved work space, each part straight after the part before it, and compared with them record by record.
+#![tactic(auto)]
+
 ghost use Rattle.std.specs.Prelude.{◌≡◌, ◌+◌, ◌*◌, ◌<◌, ◌≤◌, length, take};
 ghost use Rattle.truss.specs.Index.{encode};
 ghost use Rattle.columns.specs.Columns.{cell, COLUMNS};

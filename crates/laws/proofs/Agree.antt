@@ -8,14 +8,14 @@ use mathlib.Core.List.{Memᴰ as In}
 use Prim.Native.Nat.{ℕ, ◌≤◌, ◌<◌, min, max}
 use native.Mathlib.Nat.{le_refl, le_trans}
 use native.Mathlib.Omega.{arith}
-use lib.Dec.{ltb, leb, leb-zero}
+use lib.Dec.{ltb, leb-zero}
 use lib.ListN.{length, get_or}
 use lib.Seq.{ext_get_or}
 use borrow.Author.Tests.{ltb-true}
 use Rattle.truss.specs.Limits.{min_level, no_group}
 use Rattle.truss.specs.Lists.{range, position, sort}
 use Rattle.truss.specs.Graph.{Link, Pair, Graph, Triangle, Has, link, link_of, links_of, link_at, link_before, graph_of, link_number, member}
-use Rattle.truss.specs.Strength.{strength, weight}
+use Rattle.truss.specs.Strength.{weight}
 use Rattle.truss.specs.Chain.{Joined, StrongTriangle}
 use Rattle.truss.specs.Forest.{Join, join, all_joins, forest, singletons, same_component}
 use Rattle.truss.specs.Group.{Group, groups, group_number, group_of, parent, labels_at}

@@ -15,7 +15,6 @@ use borrow.Author.Tests.{eqb-true, eqb-false, ltb-true, ltb-false}
 use Rattle.truss.specs.Limits.{min_level, no_group}
 use Rattle.truss.specs.Lists.{filter, range}
 use Rattle.truss.specs.Graph.{Graph, link_number, link_at}
-use Rattle.truss.specs.Strength.{strength}
 use Rattle.truss.specs.Forest.{Join, all_joins, singletons, same_component, merge, components}
 use Rattle.truss.specs.Group.{Group, least_link, labels_at, group_at, groups}
 use Rattle.truss.specs.Index.{index}

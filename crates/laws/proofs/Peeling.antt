@@ -138,7 +138,7 @@ module _ (G : Graph) where
 
   pub strength_at_most : (e : Link) → strength G e ≤ 2 + G.n
   unfolding strength
-  strength_at_most e = largest_le _ (2 + G.n)
+  strength_at_most e = largest_le (λ k. member (truss G k) e) (2 + G.n)
 
   -- "A link in no triangle has 2."
   pub no_triangle : (e : Link) → member G.links e ≡ true → support G.n (member G.links) e ≡ 0 → strength G e ≡ 2

@@ -8,7 +8,7 @@ use mathlib.Core.List.Memᴰ.{head as here}
 use mathlib.Core.List.Memᴰ.{not-nil as in-nil}
 use mathlib.Core.List.Memᴰ.{tail as there}
 use mathlib.Core.List.{Memᴰ as In}
-use Prim.Native.Nat.{ℕ, zero, suc, ◌+◌, ◌-◌, ◌≤◌, ◌<◌}
+use Prim.Native.Nat.{ℕ, zero, suc, ◌+◌, ◌≤◌, ◌<◌}
 use native.Mathlib.Nat.{le_antisymm, le_refl}
 use native.Mathlib.Omega.{arith}
 use lib.Dec.{eqb, ltb, leb}
@@ -650,6 +650,7 @@ module _ (G : Graph) (o : InOrder G) (k : ℕ) (e : Link) where
 
       begins : (t : Triangle) → IsChain G k e e (t ∷ []) → StrongTriangle G k t × Has t e
       begins t (one_triangle u p q r) = (p, q)
+      begins t (and_on {shared = shared} _ _ _ _ rest) = elim rest [ ]
 
       at : (ts : List Triangle) → IsShortestFirst G k e e ts → FirstHolding G k e ts
       at [] S = absurd (omega (arith, chain_some G o k e S.is_chain))

@@ -19,7 +19,6 @@ use Rattle.truss.specs.Graph.{Link, Graph, Triangle, Has, link_number, Pair, gra
 use Rattle.truss.specs.Strength.{weight}
 use Rattle.truss.specs.Chain.{StrongTriangle}
 use Rattle.truss.specs.Forest.{Join, join, all_joins, singletons, merge, same_component, kruskal, forest, components}
-use Rattle.truss.specs.Group.{groups}
 use Rattle.truss.specs.Index.{Index, index, encode, index_bytes, link_bytes, join_bytes, group_bytes}
 use Rattle.laws.proofs.Proper.{Proper}
 use Rattle.laws.proofs.Lists.{test, true_not_false, both, and_left, and_right, and_false, count_le}

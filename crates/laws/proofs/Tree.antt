@@ -16,7 +16,6 @@ use borrow.Author.Tests.{eqb-true, eqb-false, leb-true, leb-false, le-leb, ltb-t
 use Rattle.truss.specs.Limits.{min_level, no_group}
 use Rattle.truss.specs.Lists.{filter, any, all, range, position, same_list}
 use Rattle.truss.specs.Graph.{Link, Graph, link, link_at, link_number, member}
-use Rattle.truss.specs.Strength.{strength}
 use Rattle.truss.specs.Chain.{Joined, one_triangle, and_on, StrongTriangle, AtLeast}
 use Rattle.truss.specs.Forest.{same_component}
 use Rattle.truss.specs.Group.{Group, labels_at, group_at, groups, contains, strictly_contains, group_number, parent, group_of}
@@ -25,7 +24,7 @@ use Rattle.truss.specs.Stored.{row_at, group_row_at, IsNumber, Leads, TreeHolds}
 use Rattle.laws.proofs.Proper.{Proper}
 use Rattle.truss.specs.Stored.Leads.{here as arrived, up}
 use Rattle.laws.proofs.Lists.{test, true_not_false, and_left, and_right, both, or_cases}
-use Rattle.laws.proofs.Members.{filter_in, in_filter, in_range, range_length, number_lt, link_of_number, in_any, in_member, get_d_in, position_lt, position_passes}
+use Rattle.laws.proofs.Members.{filter_in, in_filter, range_length, number_lt, link_of_number, in_any, in_member, get_d_in, position_lt, position_passes}
 use Rattle.laws.proofs.Peeling.{strength_at_least_2}
 use Rattle.laws.proofs.Chains.{joined_first, at_least_strength}
 use Rattle.laws.proofs.Connected.{same_joined, joined_same}

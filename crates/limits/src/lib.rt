@@ -1,5 +1,7 @@
 // The figures of documents 01 and 02 as the code has them, each named once. `named_once` promises that they are those of the definitions (truss: Limits), so a limit is
 // changed by its line there and its line here.
+#![tactic(auto)]
+
 ghost use Rattle.std.specs.Prelude.{◌≡◌};
 ghost use Rattle.truss.specs.Limits.{desk_length, margin_length, max_accounts, max_level, max_limit, max_links, max_named, max_records, max_stake, max_strength, max_tally, min_level, min_stake, min_strength, no_group, record_length, tally_length, windows};
 ghost use Rattle.truss.specs.Question.{bad_level};
@@ -40,11 +42,11 @@ pub const RECORD_BYTES: usize = 9;
 pub const MARGIN_BYTES: usize = 8;
 
 // A strength: a number from MIN to MAX. Another crate gets one from `of` alone, or these two.
-#[derive(Drop)]
+#[derive(Clone, Copy)]
 pub struct Strength(usize);
 
 // What a number is as a strength.
-#[derive(Drop)]
+#[derive(Clone, Copy)]
 pub enum MaybeStrength {
     Known(Strength),
     OutOfRange,
@@ -90,7 +92,7 @@ pub fn bad_level(k: usize) -> bool
 
 // The figures as one value: of the definitions' limits those of accounts, links, named accounts, no group, a tally (its rest, its bytes), a desk (its windows, its
 // bytes), strengths and levels, and of a day's bets.
-#[derive(Drop)]
+#[derive(Clone, Copy)]
 pub struct Figures {
     pub accounts: usize,
     pub links: usize,
@@ -108,7 +110,7 @@ pub struct Figures {
 }
 
 // Those of a day's bets: records, stakes, limits, and the bytes of a record and of a margin.
-#[derive(Drop)]
+#[derive(Clone, Copy)]
 pub struct BetFigures {
     pub records: usize,
     pub least: usize,

@@ -1,4 +1,6 @@
 // Links files: the checks of document 01 in their order, and the keys of the pairs, sorted, in the work space.
+#![tactic(auto)]
+
 ghost use Rattle.std.specs.Prelude.{◌≡◌, ◌+◌, ◌*◌, ◌<◌};
 ghost use Rattle.std.proofs.Math.Option.{some};
 ghost use Rattle.truss.specs.Record.{body_length};
@@ -16,28 +18,28 @@ use sorting::{FILE, ROW, sort};
 use wire::{END, PLAIN_LINK, field_at, whole_record};
 
 // The head's answer: accounts and links, or the number of a refusal at place 0.
-#[derive(Drop)]
+#[derive(Clone, Copy)]
 pub enum FileHead {
     Good { n: usize, m: usize },
     Refused(u32),
 }
 
 // One plain link record: its key, or the number of the fault that it has by itself.
-#[derive(Drop)]
+#[derive(Clone, Copy)]
 pub enum Plain {
     Key(usize),
     Fault(u32),
 }
 
 // A refusal's number, 0 for none, and place.
-#[derive(Drop)]
+#[derive(Clone, Copy)]
 pub struct Found {
     pub number: u32,
     pub place: u32,
 }
 
 // How many records have no fault by themselves, and what stopped the scan after them.
-#[derive(Drop)]
+#[derive(Clone, Copy)]
 pub struct Stopped {
     pub count: usize,
     pub number: u32,

@@ -1,80 +1,53 @@
 // An index on standard input, its groups on standard output: their number, then a line for each with number, strength, parent or `-`, links (nested ones too), accounts
 // held and the ends of its least link. Bytes that are no index print `refused 7`. No index is longer than 40,960 bytes, so what stands beyond the buffer makes
 // no index of them.
-use libc::{STDIN_FILENO, STDOUT_FILENO};
+#![tactic(auto)]
+
 use limits::{MOST_LINKS, NO_GROUP};
 use listing::rows::rows;
+use std::io;
+use std::io::{BufWriter, Read, Write};
 
-fn print_number(x: u32) {
-    io::print_decimal(STDOUT_FILENO, x as u64);
-}
-
-fn print_next(x: u32) {
-    io::write_all(STDOUT_FILENO, b" ");
-    print_number(x);
-}
-
-fn print_parent(p: u32) {
-    if p == NO_GROUP as u32 {
-        io::write_all(STDOUT_FILENO, b" -");
-        return;
-    }
-    print_next(p);
-}
-
-// The line of group g, whose row is at the front.
-fn print_row(g: u32, row: &[u32]) {
-    if row.len() < 6 {
-        return;
-    }
-    print_number(g);
-    print_next(row[0]);
-    print_parent(row[1]);
-    print_next(row[2]);
-    print_next(row[3]);
-    print_next(row[4]);
-    print_next(row[5]);
-    io::write_all(STDOUT_FILENO, b"\n");
-}
-
-fn print_rows(out: &[u32], groups: u32) {
-    let mut g: u32 = 0;
-    while g < groups {
-        let at = g as usize * 6;
-        if at <= out.len() {
-            print_row(g, &out[at..]);
-        }
-        g += 1;
-    }
-}
-
-// The work, over slices, so that main has no index of its own.
-fn work(index: &[u8], out: &mut [u32]) {
-    let r = rows(index, out);
-    if r.refusal != 0 {
-        io::write_all(STDOUT_FILENO, b"refused ");
-        print_number(r.refusal);
-        io::write_all(STDOUT_FILENO, b"\n");
-        return;
-    }
-    let groups = r.value / 6;
-    io::write_all(STDOUT_FILENO, b"groups ");
-    print_number(groups);
-    io::write_all(STDOUT_FILENO, b"\n");
-    print_rows(out, groups);
-}
+// More than the longest index.
+const ROOM: u64 = 65536;
 
 // Numbers in the rows of the most groups: no card has more groups than links.
 const NUMBERS: usize = 6 * MOST_LINKS;
 
-// Room for them.
-fn room() -> [u32; NUMBERS] {
-    [0u32; NUMBERS]
+// The line of a group, from its row.
+fn write_row<W: Write + Drop>(out: &mut W, group: usize, row: &[u32]) -> io::Result<()> {
+    if row.len() < 6 {
+        return Ok(());
+    }
+    write!(out, "{group} {}", row[0])?;
+    if row[1] == NO_GROUP as u32 {
+        write!(out, " -")?;
+    } else {
+        write!(out, " {}", row[1])?;
+    }
+    writeln!(out, " {} {} {} {}", row[2], row[3], row[4], row[5])
 }
 
-fn main() {
-    let mut input = io::large_buffer();
-    let mut out = room();
-    let n = io::read_full(STDIN_FILENO, &mut input);
-    work(&input[..n], &mut out);
+// The answer to an index: its groups, or the refusal's line.
+fn answer<W: Write + Drop>(out: &mut W, index: &[u8], numbers: &mut [u32]) -> io::Result<()> {
+    let r = rows(index, numbers);
+    if r.refusal != 0 {
+        return writeln!(out, "refused {}", r.refusal);
+    }
+    let groups = (r.value / 6) as usize;
+    writeln!(out, "groups {groups}")?;
+    for (group, row) in numbers.chunks(6).take(groups).enumerate() {
+        write_row(out, group, row)?;
+    }
+    Ok(())
+}
+
+fn main(rt: HostRuntime) -> io::Result<()> {
+    let alloc = rt.alloc();
+    let mut index = Vec::new(alloc);
+    rt.reader().take(ROOM).read_to_end(&mut index)?;
+    let mut numbers = Vec::from_elem(alloc, 0u32, NUMBERS)?;
+    let mut out = BufWriter::new(alloc, io::writer(&rt))?;
+    answer(&mut out, &index, &mut numbers)?;
+    out.flush()
 }

@@ -1,5 +1,5 @@
 -- The groups at k as a row of numbers, and their margins, as numbers and as bytes. Assumes nothing.
-use Rattle.std.specs.Prelude.{◌≡◌, ◌⊎◌, ◌≢◌, true, false, cond, List, [], ◌∷◌, ◌++◌, map, ℕ, zero, suc, ◌+◌, ◌*◌, ◌-◌, ◌^◌, ◌≤◌, ◌<◌, T, length, get_or, set, ℤ, pos, ◌-ℤ◌}
+use Rattle.std.specs.Prelude.{◌≡◌, ◌⊎◌, ◌≢◌, true, false, cond, List, [], ◌∷◌, ◌++◌, map, ℕ, suc, ◌+◌, ◌*◌, ◌-◌, ◌^◌, ◌≤◌, ◌<◌, T, length, get_or, set, ℤ, pos, ◌-ℤ◌}
 use Rattle.std.proofs.Math.Path.{refl, sym, ap, subst}
 use Rattle.std.proofs.Common.{◌∙◌, inl, inr, append-nil, zero-add, not-suc-le-zero, arith, length-append, Fits, SFits, to_z, of_z, to_z-of_z, eq-eqb, ne_eqb, ltb-true, le-ltb}
 use Rattle.std.proofs.Math.Numerals.{add-one}

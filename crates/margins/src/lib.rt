@@ -1,4 +1,6 @@
 // Closing margins: the groups at k by number, in a row, and of each the limit less the stakes taken, as signed numbers and as eight bytes each.
+#![tactic(auto)]
+
 ghost use Rattle.std.specs.Prelude.{◌≡◌, ◌+◌, ◌*◌, ◌<◌, ◌≤◌, length, pos, ◌-ℤ◌};
 ghost use Rattle.std.specs.Int.Signed.{mag};
 ghost use Rattle.truss.specs.Limits.{margin_length};

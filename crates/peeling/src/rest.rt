@@ -7,7 +7,7 @@ ghost use Rattle.peeling.specs.Rest.{listed_at, Listed, Begun, Lesser, Places, R
 use columns::{NO_SUPPORT, QUEUE, SUPPORT, get, put};
 
 // The first place of the list, and the least support of a link that is left; more than any if there is none.
-#[derive(Drop)]
+#[derive(Clone, Copy)]
 pub struct Remains {
     pub place: usize,
     pub least: usize,

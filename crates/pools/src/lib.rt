@@ -1,6 +1,8 @@
 // The groups at k that hold each account, as rows of their numbers. A stored group's top is the group at k above it, so the group at k of a link is the top of its
 // own group. The rows are the lists of the links at each account, where each link becomes its group at k, in place: it gives one entry at most, so what is written
 // never passes what is read. A group stands once in a row: column 5 has the last account that took it.
+#![tactic(auto)]
+
 ghost use Rattle.std.specs.Prelude.{◌≡◌, ◌+◌, ◌*◌, ◌≤◌, length};
 ghost use Rattle.truss.specs.Limits.{min_level};
 ghost use Rattle.columns.specs.Columns.{COLUMNS};

@@ -8,7 +8,7 @@ use Rattle.truss.specs.Limits.{min_level, no_group}
 use Rattle.truss.specs.Lists.{range}
 use Rattle.truss.specs.Graph.{Graph}
 use Rattle.truss.specs.Forest.{same_component}
-use Rattle.truss.specs.Group.{least_link, groups, group_at, labels_at}
+use Rattle.truss.specs.Group.{least_link, group_at, labels_at}
 use Rattle.truss.specs.Index.{index}
 use Rattle.truss.specs.Stored.{Leads, up}
 use Rattle.truss.specs.Stored.{here as arrived}

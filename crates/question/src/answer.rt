@@ -16,7 +16,7 @@ use index::{Reply, answered};
 use limits::WINDOWS;
 
 // The questions A to G with their numbers. The accounts that C, D and E name are lent beside it.
-#[derive(Drop)]
+#[derive(Clone, Copy)]
 pub enum Question {
     Strength {
         a: u32,

@@ -9,7 +9,7 @@ use mathlib.Core.List.{Memᴰ as In}
 use Rattle.std.proofs.Math.ListN.{length}
 use borrow.Author.Tests.{lt-ltb, ltb-true}
 use Rattle.truss.specs.Limits.{min_level, no_group}
-use Rattle.truss.specs.Lists.{any, position, same_list}
+use Rattle.truss.specs.Lists.{position, same_list}
 use Rattle.truss.specs.Graph.{Graph}
 use Rattle.truss.specs.Group.{Group, group_number, group_at, groups, group_of}
 use Rattle.truss.specs.Index.{index}

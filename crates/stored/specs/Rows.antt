@@ -7,7 +7,6 @@ use Rattle.std.proofs.Math.ListN.{length, length-map}
 use Rattle.truss.specs.Limits.{min_strength, max_strength, no_group, max_accounts, max_links}
 use Rattle.truss.specs.Lists.{position, range}
 use Rattle.truss.specs.Graph.{Graph, graph_of, link, link_at}
-use Rattle.truss.specs.Strength.{strength}
 use Rattle.truss.specs.Group.{Group, least_link, group_number, groups, parent}
 use Rattle.truss.specs.Refusal.{passed}
 use Rattle.truss.specs.Record.{kind_index_head, byte_at, field_at}

@@ -1,4 +1,6 @@
 // From sorted links to the strength of each link.
+#![tactic(auto)]
+
 ghost use Rattle.adjacency.specs.Lists.{NameAsks};
 ghost use Rattle.strength.specs.Whole.{WorkAsks, WorkGives, StrengthsGive};
 

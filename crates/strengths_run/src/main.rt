@@ -1,10 +1,12 @@
 // Runs `strengths` on small cards and prints, for each, the strengths of its links and the look-ups of the first count.
+#![tactic(auto)]
+
 ghost use Rattle.std.specs.Prelude.{◌≡◌, true, ◌*◌, ◌<◌, ◌≤◌, length};
 ghost use Rattle.columns.specs.Columns.{COLUMNS};
 ghost use Rattle.strengths_run.specs.Keys.{Good, Rising, most_small};
 
 use columns::{COLUMNS, HALF, KEY, STRENGTH, get, put};
-use libc::STDOUT_FILENO;
+use std::io;
 use strength::strengths;
 
 // Column KEY from pairs of digits, three bytes to a pair.
@@ -60,19 +62,18 @@ fn rising(w: &[u32], m: usize, n: usize) -> bool
     true
 }
 
-fn print_strengths(w: &[u32], m: usize)
+fn print_strengths(rt: &impl Print, w: &[u32], m: usize) -> io::Result<()>
     requires w_len { length w.now ≡ COLUMNS * m }
     requires m_le_most_small { m ≤ most_small }
 {
-    let mut i: usize = 0;
-    while i < m {
-        io::print_decimal(STDOUT_FILENO, get(w, m, STRENGTH, i) as u64);
-        io::write_all(STDOUT_FILENO, b" ");
-        i += 1;
+    for i in 0..m {
+        let strength = get(w, m, STRENGTH, i);
+        print!(rt; "{strength} ")?;
     }
+    Ok(())
 }
 
-fn run(w: &mut [u32], m: usize, n: usize, pairs: &[u8])
+fn run(rt: &impl Print, w: &mut [u32], m: usize, n: usize, pairs: &[u8]) -> io::Result<()>
     requires w_len { length w.old ≡ COLUMNS * m }
     requires m_in_bounds { 3 * m ≤ length pairs.now }
     requires m_le_most_small { m ≤ most_small }
@@ -81,11 +82,10 @@ fn run(w: &mut [u32], m: usize, n: usize, pairs: &[u8])
     fill(w, m, pairs);
     if rising(w, m, n) {
         let lookups = strengths(w, m, n);
-        print_strengths(w, m);
-        io::write_all(STDOUT_FILENO, b"look-ups ");
-        io::print_decimal(STDOUT_FILENO, lookups as u64);
-        io::write_all(STDOUT_FILENO, b"\n");
+        print_strengths(rt, w, m)?;
+        println!(rt; "look-ups {lookups}")?;
     }
+    Ok(())
 }
 
 // The cards here are small: so many accounts and links at most.
@@ -97,24 +97,24 @@ fn room() -> [u32; WORK] {
     [0u32; WORK]
 }
 
-fn show(pairs: &[u8], n: usize) {
+fn show(rt: &impl Print, pairs: &[u8], n: usize) -> io::Result<()> {
     let m = pairs.len() / 3;
     if SMALL < m {
-        return;
+        return Ok(());
     }
     if SMALL < n {
-        return;
+        return Ok(());
     }
     let mut work = room();
-    run(&mut work[..COLUMNS * m], m, n, pairs);
+    run(rt, &mut work[..COLUMNS * m], m, n, pairs)
 }
 
-fn main() {
+fn main(rt: HostRuntime) -> io::Result<()> {
     // card A, card B, two triangles that share an account, all pairs of five, a strip, card B with a pendant link
-    show(b"01 02 12 13 23 34 ", 5);
-    show(b"01 02 03 12 13 23 24 34 35 36 45 46 56 ", 7);
-    show(b"01 02 12 23 24 34 ", 5);
-    show(b"01 02 03 04 12 13 14 23 24 34 ", 5);
-    show(b"01 02 12 13 23 24 34 35 45 46 56 ", 7);
-    show(b"01 02 03 12 13 23 24 34 35 36 45 46 56 67 ", 8);
+    show(&rt, b"01 02 12 13 23 34 ", 5)?;
+    show(&rt, b"01 02 03 12 13 23 24 34 35 36 45 46 56 ", 7)?;
+    show(&rt, b"01 02 12 23 24 34 ", 5)?;
+    show(&rt, b"01 02 03 04 12 13 14 23 24 34 ", 5)?;
+    show(&rt, b"01 02 12 13 23 24 34 35 45 46 56 ", 7)?;
+    show(&rt, b"01 02 03 12 13 23 24 34 35 36 45 46 56 67 ", 8)
 }

@@ -1,4 +1,6 @@
 // The calls for the terminal's C host: numbers and byte slices in, four numbers out. A slice is a pointer and then a length. include/footballelm.h has them.
+#![tactic(auto)]
+
 ghost use Rattle.std.specs.Prelude.{[]};
 ghost use Rattle.truss.specs.Change.{put_in, withdraw};
 ghost use Rattle.truss.specs.Question.{ask_all, ask_chain, ask_groups_at, ask_joined, ask_links, ask_strength, ask_strongest};

@@ -1,5 +1,5 @@
 -- A day tried on an index: what the calls promise, and the ways to it. Assumes nothing.
-use Rattle.std.specs.Prelude.{◌≡◌, ◌⊎◌, ◌≢◌, Bool, true, false, ◌||◌, ℕ, ◌+◌, ◌*◌, ◌/◌, ◌-◌, ◌≤◌, ◌<◌, ltb, ◌-ℤ◌}
+use Rattle.std.specs.Prelude.{◌≡◌, ◌⊎◌, ◌≢◌, Bool, true, false, ◌||◌, ℕ, ◌+◌, ◌*◌, ◌/◌, ◌≤◌, ◌<◌, ltb, ◌-ℤ◌}
 use Rattle.std.proofs.Math.Path.{refl, sym, ap}
 use Rattle.std.proofs.Common.{ap₂, ◌∙◌, inl, inr, arith, lt-ltb, le-ltb, ltb-false}
 use mathlib.Core.List.{List}
@@ -11,7 +11,7 @@ use Rattle.truss.specs.Limits.{max_accounts, max_links, max_records, min_level, 
 use Rattle.truss.specs.Lists.{filter, range, concat_map}
 use Rattle.truss.specs.Graph.{Graph}
 use Rattle.truss.specs.Group.{Group, groups}
-use Rattle.truss.specs.Refusal.{Checked, passed, refused, refuse, refuse_if, and_then}
+use Rattle.truss.specs.Refusal.{Checked, passed, refuse, refuse_if, and_then}
 use Rattle.truss.specs.IndexFile.{read_index}
 use Rattle.truss.specs.Question.{is_group_at, holds, empty_group, numbers_of}
 use Rattle.truss.specs.Call.{Reply, done, overwrite}

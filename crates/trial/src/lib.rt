@@ -1,4 +1,6 @@
 // A day tried on an index of which the outline is known: the checks, the rows of the groups at k, the records in turn, the margins.
+#![tactic(auto)]
+
 ghost use Rattle.std.specs.Prelude.{◌≡◌, ◌+◌, ◌*◌, ◌<◌, length};
 ghost use Rattle.truss.specs.Limits.{max_accounts};
 ghost use Rattle.truss.specs.Bets.{records_in};
@@ -17,7 +19,7 @@ use margins::{list_groups, write_bytes, write_margins};
 use pools::pool_rows;
 
 // What a day comes to: its refusal, 0 if it has none; how many groups at k there are; the last limit.
-#[derive(Drop)]
+#[derive(Clone, Copy)]
 struct Closing {
     refusal: u32,
     groups: usize,

@@ -12,55 +12,31 @@ use Rattle.truss.specs.Cards.{pair, accounts, two_sizes, strong_and_large, large
 
 pub record OrderCases : Type 0 where
   -- of equally strong groups the larger first, in each question; D gives the smaller too
-  larger_C : answer two_sizes (ask_groups_at 3 (accounts (2 ∷ []))) ≡ passed (numbers (1 ∷ 0 ∷ []))
-  larger_D : answer two_sizes (ask_strongest (accounts (2 ∷ []))) ≡ passed (numbers (1 ∷ 0 ∷ []))
-  larger_E : answer two_sizes (ask_all (accounts (2 ∷ []))) ≡ passed (numbers (1 ∷ 0 ∷ []))
-  larger_written : answer_bytes (numbers (1 ∷ 0 ∷ [])) ≡ 0 ∷ 2 ∷ 0 ∷ 1 ∷ 0 ∷ 0 ∷ []
+  pub larger_C : answer two_sizes (ask_groups_at 3 (accounts (2 ∷ []))) ≡ passed (numbers (1 ∷ 0 ∷ []))
+  pub larger_D : answer two_sizes (ask_strongest (accounts (2 ∷ []))) ≡ passed (numbers (1 ∷ 0 ∷ []))
+  pub larger_E : answer two_sizes (ask_all (accounts (2 ∷ []))) ≡ passed (numbers (1 ∷ 0 ∷ []))
+  pub larger_written : answer_bytes (numbers (1 ∷ 0 ∷ [])) ≡ 0 ∷ 2 ∷ 0 ∷ 1 ∷ 0 ∷ 0 ∷ []
   -- the stronger first, though it is the smaller: in C by the stored strength, and not by k, which is 3 for both
-  stronger_C : answer strong_and_large (ask_groups_at 3 (accounts (3 ∷ []))) ≡ passed (numbers (0 ∷ 1 ∷ []))
-  stronger_E : answer strong_and_large (ask_all (accounts (3 ∷ []))) ≡ passed (numbers (0 ∷ 1 ∷ []))
+  pub stronger_C : answer strong_and_large (ask_groups_at 3 (accounts (3 ∷ []))) ≡ passed (numbers (0 ∷ 1 ∷ []))
+  pub stronger_E : answer strong_and_large (ask_all (accounts (3 ∷ []))) ≡ passed (numbers (0 ∷ 1 ∷ []))
   -- accounts of nested groups count
-  nested_C : answer larger_by_nested (ask_groups_at 3 (accounts (3 ∷ []))) ≡ passed (numbers (2 ∷ 1 ∷ []))
-  nested_D : answer larger_by_nested (ask_strongest (accounts (3 ∷ []))) ≡ passed (numbers (2 ∷ 1 ∷ []))
-  nested_E : answer larger_by_nested (ask_all (accounts (3 ∷ []))) ≡ passed (numbers (2 ∷ 1 ∷ []))
+  pub nested_C : answer larger_by_nested (ask_groups_at 3 (accounts (3 ∷ []))) ≡ passed (numbers (2 ∷ 1 ∷ []))
+  pub nested_D : answer larger_by_nested (ask_strongest (accounts (3 ∷ []))) ≡ passed (numbers (2 ∷ 1 ∷ []))
+  pub nested_E : answer larger_by_nested (ask_all (accounts (3 ∷ []))) ≡ passed (numbers (2 ∷ 1 ∷ []))
   -- accounts, not links: as many accounts, so by least link
-  accounts_C : answer more_links (ask_groups_at 3 (accounts (4 ∷ []))) ≡ passed (numbers (0 ∷ 1 ∷ []))
-  accounts_D : answer more_links (ask_strongest (accounts (4 ∷ []))) ≡ passed (numbers (0 ∷ 1 ∷ []))
-  accounts_E : answer more_links (ask_all (accounts (4 ∷ []))) ≡ passed (numbers (0 ∷ 1 ∷ []))
+  pub accounts_C : answer more_links (ask_groups_at 3 (accounts (4 ∷ []))) ≡ passed (numbers (0 ∷ 1 ∷ []))
+  pub accounts_D : answer more_links (ask_strongest (accounts (4 ∷ []))) ≡ passed (numbers (0 ∷ 1 ∷ []))
+  pub accounts_E : answer more_links (ask_all (accounts (4 ∷ []))) ≡ passed (numbers (0 ∷ 1 ∷ []))
   -- all three at once
-  fan_C : answer fan (ask_groups_at 3 (accounts (0 ∷ []))) ≡ passed (numbers (0 ∷ 2 ∷ 1 ∷ 3 ∷ []))
-  fan_D : answer fan (ask_strongest (accounts (0 ∷ []))) ≡ passed (numbers (0 ∷ []))
-  fan_E : answer fan (ask_all (accounts (0 ∷ []))) ≡ passed (numbers (0 ∷ 2 ∷ 1 ∷ 3 ∷ []))
+  pub fan_C : answer fan (ask_groups_at 3 (accounts (0 ∷ []))) ≡ passed (numbers (0 ∷ 2 ∷ 1 ∷ 3 ∷ []))
+  pub fan_D : answer fan (ask_strongest (accounts (0 ∷ []))) ≡ passed (numbers (0 ∷ []))
+  pub fan_E : answer fan (ask_all (accounts (0 ∷ []))) ≡ passed (numbers (0 ∷ 2 ∷ 1 ∷ 3 ∷ []))
   -- "the group numbers in the index do not move": by falling strength, then least link, and so are the lister's rows; F stays rising
-  numbers_stay : groups two_sizes ≡ record { strength = 3; members = 0 ∷ 1 ∷ 2 ∷ [] } ∷ record { strength = 3; members = 3 ∷ 4 ∷ 5 ∷ 6 ∷ 7 ∷ [] } ∷ []
-  rows_stay : rows two_sizes
+  pub numbers_stay : groups two_sizes ≡ record { strength = 3; members = 0 ∷ 1 ∷ 2 ∷ [] } ∷ record { strength = 3; members = 3 ∷ 4 ∷ 5 ∷ 6 ∷ 7 ∷ [] } ∷ []
+  pub rows_stay : rows two_sizes
       ≡ record { strength = 3; parent = no_group; links = 3; accounts = 3; lo = 0; hi = 1 }
       ∷ record { strength = 3; parent = no_group; links = 5; accounts = 4; lo = 2; hi = 3 }
       ∷ []
-  links_stay : answer larger_by_nested (ask_links 3 4 6) ≡ passed (numbers (5 ∷ 6 ∷ 7 ∷ 8 ∷ 9 ∷ 10 ∷ 11 ∷ 12 ∷ []))
+  pub links_stay : answer larger_by_nested (ask_links 3 4 6) ≡ passed (numbers (5 ∷ 6 ∷ 7 ∷ 8 ∷ 9 ∷ 10 ∷ 11 ∷ 12 ∷ []))
   -- "The count and the set of groups are those of before": the numbers, rising, which are sorted after
-  set_stays : all_holding fan (0 ∷ []) ≡ 0 ∷ 1 ∷ 2 ∷ 3 ∷ []
-
-pub order_cases : OrderCases
-unfolding two_sizes strong_and_large larger_by_nested more_links fan pair accounts graph_of groups rows answer answer_bytes all_holding
-order_cases = record {
-  larger_C = refl;
-  larger_D = refl;
-  larger_E = refl;
-  larger_written = refl;
-  stronger_C = refl;
-  stronger_E = refl;
-  nested_C = refl;
-  nested_D = refl;
-  nested_E = refl;
-  accounts_C = refl;
-  accounts_D = refl;
-  accounts_E = refl;
-  fan_C = refl;
-  fan_D = refl;
-  fan_E = refl;
-  numbers_stay = refl;
-  rows_stay = refl;
-  links_stay = refl;
-  set_stays = refl;
-}
+  pub set_stays : all_holding fan (0 ∷ []) ≡ 0 ∷ 1 ∷ 2 ∷ 3 ∷ []

@@ -1,4 +1,6 @@
 // The definitions of the linked-account index stand in specs/. The check looks at a crate only if it has a function: this one promises the worked cases.
+#![tactic(auto)]
+
 ghost use Rattle.truss.specs.Cases.{Cases, RuleCases, WindowCases, FieldCases};
 ghost use Rattle.truss.specs.StrengthCases.{StrengthCases};
 ghost use Rattle.truss.specs.ChainCases.{ChainCases};

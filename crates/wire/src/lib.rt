@@ -1,4 +1,6 @@
 // Records and two-byte fields in lent bytes: kinds and body lengths, reading and writing. No graphs.
+#![tactic(auto)]
+
 ghost use Rattle.std.specs.Prelude.{◌≡◌, ◌+◌, ◌*◌, ◌/◌, ◌%◌, ◌<◌, ◌≤◌, length, take};
 ghost use Rattle.truss.specs.Record.{body_length, field, field_at, head_bytes, whole};
 ghost use Rattle.truss.specs.LinksFile.{pair_bytes};
@@ -24,7 +26,7 @@ pub const INDEX_HEAD: u8 = 7;
 
 // The body length that a kind fixes; an unknown kind is refusal 1. Today only kinds 1, 2, 5, 6 and 7 are looked for by it, so the other arms never run: the match is the
 // table of the documents as it stands.
-#[derive(Drop)]
+#[derive(Clone, Copy)]
 pub enum Body {
     Length(usize),
     Unknown,

@@ -1,0 +1,11 @@
+pub mod Cases
+pub mod StrengthCases
+pub mod ChainCases
+pub mod OrderCases
+pub mod LoneCases
+pub mod WholeCalls
+pub mod DeskCases
+pub mod ChangeCases
+pub mod BetsCases
+pub mod Figures
+pub mod Spelled
