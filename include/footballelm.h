@@ -1,4 +1,4 @@
-/* The linked-account index: calls for a C host on x86-64 Linux. Link with target/staticlib/libterminal.a, which `rt staticlib terminal` writes. */
+/* The linked-account index: calls for a C host on x86-64 Linux. Link with crates/terminal/out/libterminal.a, which `rt lib` in crates/terminal writes. */
 #ifndef FOOTBALLELM_H
 #define FOOTBALLELM_H
 
@@ -39,8 +39,8 @@ typedef struct {
 #define FE_LIMIT_MAX 1000000000
 
 /* Bytes of stack that are enough for any call, below the caller's frame. No function calls itself, directly or through others, and each frame has a fixed size, so the
- * deepest row of calls bounds every call, whatever is lent: 147,960 bytes of fe_build, 148,008 of fe_read, 148,056 of a change, 153,112 of a question,
- * 160,376 of fe_try_limit. Summed from the object code (tests/frames) and measured (tests/c/stack.c), not proved. The other 7,560 bytes are for the C library's memset and
+ * deepest row of calls bounds every call, whatever is lent: 147,944 bytes of fe_build, 147,976 of fe_read, 148,024 of a change, 152,840 of a question,
+ * 160,328 of fe_try_limit. Summed from the object code (tests/frames) and measured (tests/c/stack.c), not proved. The other 7,608 bytes are for the C library's memset and
  * memcpy: a first call that had to bind memset took 3,104 of them. A thread needs all this and what its own functions take. */
 #define FE_STACK_MAX 167936
 

@@ -11,7 +11,7 @@ use reference::card::links_file;
 
 /// What the program prints for the bytes on its standard input.
 fn printed(index: &[u8]) -> std::io::Result<String> {
-    let program = std::env::var_os("LISTER").unwrap_or("target/bin/lister".into());
+    let program = std::env::var_os("LISTER").unwrap_or("crates/lister/out/lister".into());
     let mut lister = Command::new(program)
         .stdin(Stdio::piped())
         .stdout(Stdio::piped())
