@@ -6,7 +6,7 @@ use std::io;
 use std::io::{Read, Write};
 
 // More than the longest file.
-const ROOM: u64 = 65536;
+const ROOM: usize = 65536;
 
 // The answer to a links file: its index, or the refusal's line.
 fn answer<W: Write + Drop>(mut out: W, links: &[u8], index: &mut [u8]) -> io::Result<()> {
@@ -22,9 +22,9 @@ fn answer<W: Write + Drop>(mut out: W, links: &[u8], index: &mut [u8]) -> io::Re
 }
 
 fn main(rt: HostRuntime) -> io::Result<()> {
-    let alloc = rt.alloc();
-    let mut links = Vec::new(alloc);
-    rt.reader().take(ROOM).read_to_end(&mut links)?;
-    let mut index = Vec::from_elem(alloc, 0u8, ROOM as usize)?;
-    answer(io::writer(&rt), &links, &mut index)
+    let mut links = [0u8; ROOM];
+    let mut rest: &mut [u8] = &mut links;
+    let length = io::copy(&mut rt.reader().take(ROOM as u64), &mut rest)? as usize;
+    let mut index = [0u8; ROOM];
+    answer(io::writer(&rt), &links[..length.min(ROOM)], &mut index)
 }

@@ -6,10 +6,10 @@
 use limits::{MOST_LINKS, NO_GROUP};
 use listing::rows::rows;
 use std::io;
-use std::io::{BufWriter, Read, Write};
+use std::io::{Read, Write};
 
 // More than the longest index.
-const ROOM: u64 = 65536;
+const ROOM: usize = 65536;
 
 // Numbers in the rows of the most groups: no card has more groups than links.
 const NUMBERS: usize = 6 * MOST_LINKS;
@@ -43,11 +43,9 @@ fn answer<W: Write + Drop>(out: &mut W, index: &[u8], numbers: &mut [u32]) -> io
 }
 
 fn main(rt: HostRuntime) -> io::Result<()> {
-    let alloc = rt.alloc();
-    let mut index = Vec::new(alloc);
-    rt.reader().take(ROOM).read_to_end(&mut index)?;
-    let mut numbers = Vec::from_elem(alloc, 0u32, NUMBERS)?;
-    let mut out = BufWriter::new(alloc, io::writer(&rt))?;
-    answer(&mut out, &index, &mut numbers)?;
-    out.flush()
+    let mut index = [0u8; ROOM];
+    let mut rest: &mut [u8] = &mut index;
+    let length = io::copy(&mut rt.reader().take(ROOM as u64), &mut rest)? as usize;
+    let mut numbers = [0u32; NUMBERS];
+    answer(&mut io::writer(&rt), &index[..length.min(ROOM)], &mut numbers)
 }
