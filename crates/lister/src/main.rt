@@ -46,6 +46,6 @@ fn main(rt: HostRuntime) -> io::Result<()> {
     let mut index = [0u8; ROOM];
     let mut rest: &mut [u8] = &mut index;
     let length = io::copy(&mut rt.reader().take(ROOM as u64), &mut rest)? as usize;
-    let mut numbers = [0u32; NUMBERS];
-    answer(&mut io::writer(&rt), &index[..length.min(ROOM)], &mut numbers)
+    let index = &index[..length.min(ROOM)];
+    answer(&mut io::writer(&rt), index, &mut [0u32; NUMBERS])
 }

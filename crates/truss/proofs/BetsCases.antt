@@ -1,9 +1,7 @@
 -- That what specs/BetsCases.antt states holds.
-use Rattle.std.specs.Prelude.{◌≡◌, refl, [], ◌∷◌, map, pos, negsuc}
+use Rattle.std.specs.Prelude.{refl}
 use Rattle.truss.specs.Lists.{range}
-use Rattle.truss.specs.Refusal.{passed, refuse}
-use Rattle.truss.specs.Call.{done}
-use Rattle.truss.specs.Bets.{bet, new_limit, day_of, check_day, try_limit, records_in, margin_bytes, margin_at, try_limit_bytes}
+use Rattle.truss.specs.Bets.{day_of, check_day, try_limit, records_in, margin_bytes, margin_at, try_limit_bytes}
 use Rattle.truss.specs.Cards.{graph_a, graph_b, index_a, five}
 use Rattle.truss.specs.BetsCases.{BetsCases}
 

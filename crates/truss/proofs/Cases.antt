@@ -1,20 +1,17 @@
 -- That what specs/Cases.antt states holds.
-use Rattle.std.specs.Prelude.{◌≡◌, refl, [], ◌∷◌, ◌++◌, length, take, replicate}
-use Rattle.std.proofs.Math.Option.{none, some}
-use Rattle.truss.specs.Limits.{no_group}
-use Rattle.truss.specs.Graph.{link, graph_of, member, support}
+use Rattle.std.specs.Prelude.{refl}
+use Rattle.truss.specs.Graph.{graph_of, member, support}
 use Rattle.truss.specs.Strength.{strength, weight}
-use Rattle.truss.specs.Forest.{join, forest}
+use Rattle.truss.specs.Forest.{forest}
 use Rattle.truss.specs.Group.{groups}
-use Rattle.truss.specs.Refusal.{passed, refuse}
 use Rattle.truss.specs.Record.{body_length}
-use Rattle.truss.specs.LinksFile.{accepted, read_links, pair_bytes, write_links, read_back}
+use Rattle.truss.specs.LinksFile.{read_links, write_links, read_back}
 use Rattle.truss.specs.Index.{index, encode, index_bytes, decode}
 use Rattle.truss.specs.IndexFile.{read_index}
-use Rattle.truss.specs.Question.{accounts_in, answer, ask_strength, ask_joined, ask_groups_at, ask_strongest, ask_all, ask_links, two_numbers, number, numbers}
-use Rattle.truss.specs.Call.{answer_bytes, answer_value, tally_bytes, tally_in}
+use Rattle.truss.specs.Question.{answer}
+use Rattle.truss.specs.Call.{answer_bytes, answer_value}
 use Rattle.truss.specs.Listing.{rows, lister}
-use Rattle.truss.specs.Cards.{pair, file, head_only, accounts, pairs_a, pairs_a', graph_a, index_a, graph_b, index_b, bow_tie, five, nested, slow, weak_first, weak_last, kite, two_apart, triangle, large_rows, large_bytes}
+use Rattle.truss.specs.Cards.{pair, file, head_only, accounts, pairs_a', graph_a, index_a, graph_b, index_b, bow_tie, five, nested, slow, weak_first, weak_last, kite, two_apart, triangle, large_rows, large_bytes}
 use Rattle.truss.specs.Cases.{Cases, RuleCases, WindowCases, FieldCases}
 
 pub cases : Cases

@@ -1,9 +1,7 @@
 -- That what specs/ChainCases.antt states holds.
-use Rattle.std.specs.Prelude.{◌≡◌, refl, [], ◌∷◌, ◌++◌, take, drop, replicate}
-use Rattle.truss.specs.Refusal.{passed, refuse}
-use Rattle.truss.specs.Question.{answer, ask_chain, chain}
-use Rattle.truss.specs.Call.{answer_bytes, ask, ask_bytes, done}
-use Rattle.truss.specs.Windows.{refused_by}
+use Rattle.std.specs.Prelude.{refl}
+use Rattle.truss.specs.Question.{answer}
+use Rattle.truss.specs.Call.{answer_bytes, ask, ask_bytes}
 use Rattle.truss.specs.Cards.{corners, sevens, graph_a, graph_b, bow_tie, five, nested, kite, wheel, strip, triangle, index_t}
 use Rattle.truss.specs.ChainCases.{ChainCases}
 

@@ -1,14 +1,10 @@
 -- That what specs/ChangeCases.antt states holds.
-use Rattle.std.specs.Prelude.{◌≡◌, refl, true, false, [], ◌∷◌, ◌++◌, ◌-◌, replicate}
-use Rattle.truss.specs.Limits.{max_links}
-use Rattle.truss.specs.Graph.{Graph, link, graph_of, member}
-use Rattle.truss.specs.Refusal.{passed, refuse}
+use Rattle.std.specs.Prelude.{refl, replicate}
+use Rattle.truss.specs.Graph.{graph_of, member}
 use Rattle.truss.specs.LinksFile.{write_links}
 use Rattle.truss.specs.Index.{index_bytes}
-use Rattle.truss.specs.Call.{done}
 use Rattle.truss.specs.Change.{put_in, withdraw, with_link, without_link, altered, change}
-use Rattle.truss.specs.Windows.{refused_by}
-use Rattle.truss.specs.Changes.{moved, Changes, none, one, Changed}
+use Rattle.truss.specs.Changes.{moved, none, one}
 use Rattle.truss.specs.Cards.{pair, index_only, pairs_a, graph_a, index_a, index_b, index_t}
 use Rattle.truss.specs.ChangeCases.{full, one_fewer, ChangeCases}
 

@@ -1,9 +1,8 @@
 -- That what specs/DeskCases.antt states holds.
-use Rattle.std.specs.Prelude.{◌≡◌, refl, List, [], ◌∷◌, ◌++◌, ℕ, take, drop, replicate}
-use Rattle.truss.specs.Question.{ask_strength, ask_groups_at, ask_all, ask_links}
-use Rattle.truss.specs.Call.{Reply, ask, ask_bytes, done, done_with}
-use Rattle.truss.specs.Run.{Seen, Run, none, one, own_answered, Asks, AsksBytes}
-use Rattle.truss.specs.Windows.{refused_by}
+use Rattle.std.specs.Prelude.{◌≡◌, refl, List, [], ◌∷◌, ◌++◌, ℕ, take, drop}
+use Rattle.truss.specs.Question.{ask_strength, ask_all}
+use Rattle.truss.specs.Call.{Reply, ask, ask_bytes}
+use Rattle.truss.specs.Run.{none, one, own_answered, Asks, AsksBytes}
 use Rattle.truss.specs.Cards.{index_only, accounts, sevens, index_t}
 use Rattle.truss.specs.DeskCases.{DeskCases}
 

@@ -1,9 +1,7 @@
 -- That what specs/Figures.antt states holds.
-use Rattle.std.specs.Prelude.{◌≡◌, refl, [], ◌∷◌}
-use Rattle.truss.specs.Limits.{max_accounts, max_links, min_strength, max_strength, min_level, max_level, max_named, no_group, max_index_bytes, max_chain_bytes, max_tally, tally_length, windows, desk_length, max_records, min_stake, max_stake, max_limit, record_length, margin_length}
-use Rattle.truss.specs.Refusal.{passed, refuse}
-use Rattle.truss.specs.LinksFile.{accepted, read_links}
-use Rattle.truss.specs.Question.{answer, ask_groups_at, ask_links, ask_chain, numbers, chain}
+use Rattle.std.specs.Prelude.{refl}
+use Rattle.truss.specs.LinksFile.{read_links}
+use Rattle.truss.specs.Question.{answer}
 use Rattle.truss.specs.Bets.{check_day}
 use Rattle.truss.specs.Cards.{corners, file, head_only, accounts, triangle}
 use Rattle.truss.specs.Figures.{Figures}

@@ -1,15 +1,12 @@
 -- That what specs/LoneCases.antt states holds.
-use Rattle.std.specs.Prelude.{◌≡◌, refl, [], ◌∷◌, ◌++◌, take, drop, replicate}
-use Rattle.truss.specs.Limits.{no_group}
+use Rattle.std.specs.Prelude.{refl}
 use Rattle.truss.specs.Group.{groups}
-use Rattle.truss.specs.Refusal.{passed, refuse}
 use Rattle.truss.specs.LinksFile.{write_links}
 use Rattle.truss.specs.Index.{index, index_bytes}
 use Rattle.truss.specs.IndexFile.{read_index}
-use Rattle.truss.specs.Question.{answer, ask_strength, ask_joined, ask_groups_at, ask_strongest, ask_all, ask_links, ask_chain, number, numbers, chain}
-use Rattle.truss.specs.Call.{done, build, read, ask, ask_bytes}
-use Rattle.truss.specs.Change.{put_in, withdraw, change}
-use Rattle.truss.specs.Windows.{refused_by}
+use Rattle.truss.specs.Question.{answer}
+use Rattle.truss.specs.Call.{build, read, ask, ask_bytes}
+use Rattle.truss.specs.Change.{change}
 use Rattle.truss.specs.Listing.{rows, lister, builder}
 use Rattle.truss.specs.Cards.{corners, head_only, accounts, sevens, pairs_a, graph_a, index_a, five, nested, three_lone, lone_first}
 use Rattle.truss.specs.LoneCases.{LoneCases}

@@ -1,10 +1,8 @@
 -- That what specs/OrderCases.antt states holds.
-use Rattle.std.specs.Prelude.{◌≡◌, refl, [], ◌∷◌}
-use Rattle.truss.specs.Limits.{no_group}
+use Rattle.std.specs.Prelude.{refl}
 use Rattle.truss.specs.Graph.{graph_of}
 use Rattle.truss.specs.Group.{groups}
-use Rattle.truss.specs.Refusal.{passed}
-use Rattle.truss.specs.Question.{answer, ask_groups_at, ask_strongest, ask_all, ask_links, numbers, all_holding}
+use Rattle.truss.specs.Question.{answer, all_holding}
 use Rattle.truss.specs.Call.{answer_bytes}
 use Rattle.truss.specs.Listing.{rows}
 use Rattle.truss.specs.Cards.{pair, accounts, two_sizes, strong_and_large, larger_by_nested, more_links, fan}

@@ -1,9 +1,7 @@
 -- That what specs/StrengthCases.antt states holds.
-use Rattle.std.specs.Prelude.{◌≡◌, refl, [], ◌∷◌, replicate}
-use Rattle.truss.specs.Graph.{link}
+use Rattle.std.specs.Prelude.{refl}
 use Rattle.truss.specs.Support.{support_at}
-use Rattle.truss.specs.Refusal.{passed}
-use Rattle.truss.specs.Question.{answer, ask_strength, ask_joined, two_numbers}
+use Rattle.truss.specs.Question.{answer}
 use Rattle.truss.specs.Call.{ask}
 use Rattle.truss.specs.Cards.{pair, sevens, graph_b, index_a, index_b, bow_tie, five, nested, slow, weak_first, weak_last}
 use Rattle.truss.specs.StrengthCases.{StrengthCases}

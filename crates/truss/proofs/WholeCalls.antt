@@ -1,9 +1,8 @@
 -- That what specs/WholeCalls.antt states holds.
-use Rattle.std.specs.Prelude.{◌≡◌, refl, [], ◌∷◌, ◌++◌, replicate}
+use Rattle.std.specs.Prelude.{refl}
 use Rattle.truss.specs.LinksFile.{write_links}
-use Rattle.truss.specs.Question.{ask_strength, ask_joined, ask_groups_at, ask_strongest, ask_all, ask_links}
-use Rattle.truss.specs.Call.{build, read, ask, done, done_with}
-use Rattle.truss.specs.Listing.{decimal, row_text, lister, builder}
+use Rattle.truss.specs.Call.{build, read, ask}
+use Rattle.truss.specs.Listing.{row_text, lister, builder}
 use Rattle.truss.specs.Cards.{pair, file, head_only, index_only, accounts, sevens, pairs_a, index_a, index_b, index_t}
 use Rattle.truss.specs.WholeCalls.{WholeCalls}
 

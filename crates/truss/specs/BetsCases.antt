@@ -1,5 +1,5 @@
 -- A limit tried on a day's bets: worked cases, held by computation. At 4 card B has the groups 0, of accounts 0 to 3, and 1, of accounts 3 to 6.
-use Rattle.std.specs.Prelude.{◌≡◌, refl, [], ◌∷◌, map, pos, negsuc}
+use Rattle.std.specs.Prelude.{◌≡◌, [], ◌∷◌, map, pos, negsuc}
 use Rattle.truss.specs.Lists.{range}
 use Rattle.truss.specs.Refusal.{passed, refuse}
 use Rattle.truss.specs.Call.{done}

@@ -1,7 +1,7 @@
 -- Worked cases of the definitions, held by computation. `Cases` is document 01's list marked P as document 02 leaves it, with card A's bytes and card B's listing. What that
 -- list leaves open: `RuleCases` has the ties and the checks of a links file, `WindowCases` the checks of a question, `FieldCases` numbers above 255.
 -- The limits stand in Figures.
-use Rattle.std.specs.Prelude.{◌≡◌, refl, [], ◌∷◌, ◌++◌, length, take, replicate}
+use Rattle.std.specs.Prelude.{◌≡◌, [], ◌∷◌, ◌++◌, length, take, replicate}
 use Rattle.std.proofs.Math.Option.{none, some}
 use Rattle.truss.specs.Limits.{no_group}
 use Rattle.truss.specs.Graph.{link, graph_of, member, support}
@@ -52,6 +52,8 @@ pub record Cases : Type 0 where
       ∷ 0x30 ∷ 0x20 ∷ 0x34 ∷ 0x20 ∷ 0x32 ∷ 0x20 ∷ 0x36 ∷ 0x20 ∷ 0x34 ∷ 0x20 ∷ 0x30 ∷ 0x20 ∷ 0x31 ∷ 0x0A
       ∷ 0x31 ∷ 0x20 ∷ 0x34 ∷ 0x20 ∷ 0x32 ∷ 0x20 ∷ 0x36 ∷ 0x20 ∷ 0x34 ∷ 0x20 ∷ 0x33 ∷ 0x20 ∷ 0x34 ∷ 0x0A
       ∷ 0x32 ∷ 0x20 ∷ 0x33 ∷ 0x20 ∷ 0x2D ∷ 0x20 ∷ 0x31 ∷ 0x33 ∷ 0x20 ∷ 0x37 ∷ 0x20 ∷ 0x30 ∷ 0x20 ∷ 0x31 ∷ 0x0A ∷ []
+
+-- ---- ties, and every order of the checks of a links file
 
 pub record RuleCases : Type 0 where
   -- peeling goes on for as long as it takes away; a triangle weighs what its weakest side does, whichever that is
@@ -141,6 +143,8 @@ pub record RuleCases : Type 0 where
   pub joined_at_5 : answer nested (ask_joined 0 1 3 4) ≡ passed (number 5)
   pub joined_around : answer nested (ask_joined 3 4 5 2) ≡ passed (number 4)
 
+-- ---- the window's checks, 8 to 11: every account, link and level that each question looks at, and every order
+
 pub record WindowCases : Type 0 where
   -- 8 of C, D and E: none named, an odd length, sixteen and seventeen
   pub C_none_named : answer triangle (ask_groups_at 3 []) ≡ refuse 8 0
@@ -196,6 +200,8 @@ pub record WindowCases : Type 0 where
   pub F_account_before_high_level : answer triangle (ask_links 65535 3 0) ≡ refuse 9 0
   pub F_level_before_link : answer nested (ask_links 1 5 6) ≡ refuse 10 0
   pub F_high_level_before_link : answer nested (ask_links 65535 5 6) ≡ refuse 10 0
+
+-- ---- numbers above 255: both bytes of every field, read and written
 
 pub record FieldCases : Type 0 where
   -- a links file: n, m and accounts

@@ -1,5 +1,5 @@
 -- Worked cases of question G, held by computation: answers, every order of its checks, the bytes written. The limits of k stand in Figures.
-use Rattle.std.specs.Prelude.{◌≡◌, refl, [], ◌∷◌, ◌++◌, take, drop, replicate}
+use Rattle.std.specs.Prelude.{◌≡◌, [], ◌∷◌, ◌++◌, take, drop, replicate}
 use Rattle.truss.specs.Refusal.{passed, refuse}
 use Rattle.truss.specs.Question.{answer, ask_chain, chain}
 use Rattle.truss.specs.Call.{answer_bytes, ask, ask_bytes, done}

@@ -1,5 +1,5 @@
 -- Links that come and go, held by computation: replies, every byte of the second buffer, each order of checks, and a sequence of changes.
-use Rattle.std.specs.Prelude.{◌≡◌, refl, true, false, [], ◌∷◌, ◌++◌, ◌-◌, replicate}
+use Rattle.std.specs.Prelude.{◌≡◌, true, false, [], ◌∷◌, ◌++◌, ◌-◌, replicate}
 use Rattle.truss.specs.Limits.{max_links}
 use Rattle.truss.specs.Graph.{Graph, link, graph_of, member}
 use Rattle.truss.specs.Refusal.{passed, refuse}
@@ -8,8 +8,8 @@ use Rattle.truss.specs.Index.{index_bytes}
 use Rattle.truss.specs.Call.{done}
 use Rattle.truss.specs.Change.{put_in, withdraw, with_link, without_link, altered, change}
 use Rattle.truss.specs.Windows.{refused_by}
-use Rattle.truss.specs.Changes.{moved, Changes, none, one, Changed}
-use Rattle.truss.specs.Cards.{pair, index_only, pairs_a, graph_a, index_a, index_b, index_t}
+use Rattle.truss.specs.Changes.{moved, Changes, Changed}
+use Rattle.truss.specs.Cards.{pair, index_only, pairs_a, graph_a, index_a, index_t}
 
 -- as many links as there may be, and one fewer; of no file, since they are all the same link
 unfoldable pub full : Graph

@@ -1,8 +1,8 @@
 -- Worked cases of the desk, held by computation: which tally moves and when, every byte of its record, 13 ahead of each other check, a short record after each.
-use Rattle.std.specs.Prelude.{◌≡◌, refl, List, [], ◌∷◌, ◌++◌, ℕ, take, drop, replicate}
+use Rattle.std.specs.Prelude.{◌≡◌, [], ◌∷◌, ◌++◌, ℕ, replicate}
 use Rattle.truss.specs.Question.{ask_strength, ask_groups_at, ask_all, ask_links}
 use Rattle.truss.specs.Call.{Reply, ask, ask_bytes, done, done_with}
-use Rattle.truss.specs.Run.{Seen, Run, none, one, own_answered, Asks, AsksBytes}
+use Rattle.truss.specs.Run.{Seen, Run, own_answered, Asks, AsksBytes}
 use Rattle.truss.specs.Windows.{refused_by}
 use Rattle.truss.specs.Cards.{index_only, accounts, sevens, index_t}
 

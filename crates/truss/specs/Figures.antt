@@ -1,6 +1,6 @@
 -- The figures of documents 01 and 02, each as they print it, and the cases at either side of a limit. No case of another file depends on the limit
 -- of links, the greatest strength or the limit of index bytes.
-use Rattle.std.specs.Prelude.{◌≡◌, refl, [], ◌∷◌}
+use Rattle.std.specs.Prelude.{◌≡◌, [], ◌∷◌}
 use Rattle.truss.specs.Limits.{max_accounts, max_links, min_strength, max_strength, min_level, max_level, max_named, no_group, max_index_bytes, max_chain_bytes, max_tally, tally_length, windows, desk_length, max_records, min_stake, max_stake, max_limit, record_length, margin_length}
 use Rattle.truss.specs.Refusal.{passed, refuse}
 use Rattle.truss.specs.LinksFile.{accepted, read_links}

@@ -6,7 +6,7 @@ use Rattle.truss.specs.Graph.{Graph, link_at}
 use Rattle.truss.specs.Strength.{strength, strength_bound}
 use Rattle.truss.specs.Forest.{all_joins, singletons, components, same_component}
 
--- the label of each link's component at k: different links have one label exactly when they are joined at k (laws: joined-same, same_joined)
+-- the label of each link's component at k: different links have one label exactly when they are joined at k (laws: joined_same, same_joined)
 unfoldable pub labels_at : Graph → ℕ → List ℕ
 unfolding components filter all_joins range
 labels_at G k = components (singletons (length G.links)) (filter (λ x. leb k x.weight) (all_joins G))

@@ -13,7 +13,7 @@ pub record IsIndexOf (b : List ℕ) (n : ℕ) (ps : List Pair) : Type 0 where
   pub file_accepted : read_links file ≡ accepted n ps
   pub bytes : index_bytes (graph_of n ps) ≡ b
 
--- The same as a test (laws: read-index, read-only, refused_7): the links file that the head and the strong links name is accepted, and these bytes
+-- The same as a test (laws: read-index, read_only, refused_7): the links file that the head and the strong links name is accepted, and these bytes
 -- are its index.
 unfoldable pub links_file_in : List ℕ → List ℕ
 unfolding decode write_links

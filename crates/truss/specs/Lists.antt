@@ -1,5 +1,5 @@
 -- Functions on lists and numbers that the definitions use; a test is a function to Bool. (`length`, `get_or`, `take`, `drop`, `map` and `◌++◌` are
--- the library's; getD xs i d is the element at i, d past the end.)
+-- the library's; get_or xs i d is the element at i, d past the end.)
 use Rattle.std.specs.Prelude.{Bool, true, false, cond, ◌&&◌, ℕ, zero, suc, ◌+◌, eqb}
 use mathlib.Core.List.{List, [], ◌∷◌, ◌++◌}
 

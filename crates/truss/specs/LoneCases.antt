@@ -1,6 +1,6 @@
 -- Worked cases of lone links, held by computation: their groups, what the questions answer with them, and the two heads. B of 3-4 of card A with itself and the card's 90 bytes stand in Cases, links put in
 -- and withdrawn in ChangeCases, the limits of k in Figures.
-use Rattle.std.specs.Prelude.{◌≡◌, refl, [], ◌∷◌, ◌++◌, take, drop, replicate}
+use Rattle.std.specs.Prelude.{◌≡◌, [], ◌∷◌, ◌++◌, take, drop, replicate}
 use Rattle.truss.specs.Limits.{no_group}
 use Rattle.truss.specs.Group.{groups}
 use Rattle.truss.specs.Refusal.{passed, refuse}

@@ -1,14 +1,13 @@
 -- Worked cases of the order in which C, D and E list groups, held by computation. "Card B answers E on {3} with 0, 1, 2 still" is `all_of_3` of Cases. The orders of the checks
 -- stand in Cases, WholeCalls and DeskCases.
-use Rattle.std.specs.Prelude.{◌≡◌, refl, [], ◌∷◌}
+use Rattle.std.specs.Prelude.{◌≡◌, [], ◌∷◌}
 use Rattle.truss.specs.Limits.{no_group}
-use Rattle.truss.specs.Graph.{graph_of}
 use Rattle.truss.specs.Group.{groups}
 use Rattle.truss.specs.Refusal.{passed}
 use Rattle.truss.specs.Question.{answer, ask_groups_at, ask_strongest, ask_all, ask_links, numbers, all_holding}
 use Rattle.truss.specs.Call.{answer_bytes}
 use Rattle.truss.specs.Listing.{rows}
-use Rattle.truss.specs.Cards.{pair, accounts, two_sizes, strong_and_large, larger_by_nested, more_links, fan}
+use Rattle.truss.specs.Cards.{accounts, two_sizes, strong_and_large, larger_by_nested, more_links, fan}
 
 pub record OrderCases : Type 0 where
   -- of equally strong groups the larger first, in each question; D gives the smaller too

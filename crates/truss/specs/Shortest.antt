@@ -47,8 +47,8 @@ unfoldable pub touches : List Link → Triangle → Bool
 unfolding any member
 touches L t = any (member L) (sides t)
 
--- the links from which a chain of just r of the triangles leads to f: of none, f itself (laws: starts-is). A triangle may come twice in a chain, so from
--- r = 1 on they only become more (laws: starts-more), and the first r at which a link is among them is its distance from f.
+-- the links from which a chain of just r of the triangles leads to f: of none, f itself (laws: starts_is). A triangle may come twice in a chain, so from
+-- r = 1 on they only become more (laws: starts_more), and the first r at which a link is among them is its distance from f.
 unfoldable pub starts : List Triangle → Link → ℕ → List Link
 unfolding concat_map filter touches
 starts T f zero = f ∷ []

@@ -1,10 +1,8 @@
 -- Demand 3 in plain words of the definitions: what it says of any files, links and levels, whatever memory was lent; what question A answers (Firmness), and how an answer stands in reply and
 -- buffer; what C, D and E list (Order); what question G answers (Ways); lone links (Lone); what the window and the record as bytes have to do with a question (Windows); tallies over a run (Run); links that come and go (Changes); and a limit tried on a day's bets (Trial).
 -- A hypothesis more in one of them, or a conclusion less, fails here; no law fails at it, since the law that is left is weaker and true.
-use Rattle.std.specs.Prelude.{◌≡◌, refl, ◌⊎◌, ◌↔◌, ◌≢◌, Bool, true, false, cond, not, ◌&&◌, ◌||◌, List, [], ◌∷◌, ◌++◌, map, ℕ, suc, ◌+◌, ◌*◌, ◌-◌, ◌/◌, ◌≤◌, ◌<◌, min, eqb, ltb, length, get_or, take, drop, set, ℤ, pos, ◌-ℤ◌, ◌≤ℤ◌}
-use Rattle.std.proofs.Common.{sym, ap, ◌∙◌, subst, inl, inr, arith}
+use Rattle.std.specs.Prelude.{◌≡◌, ◌⊎◌, ◌↔◌, ◌≢◌, Bool, true, false, cond, not, ◌&&◌, ◌||◌, List, [], ◌∷◌, ◌++◌, map, ℕ, suc, ◌+◌, ◌*◌, ◌-◌, ◌/◌, ◌≤◌, ◌<◌, min, eqb, ltb, length, get_or, take, drop, set, ℤ, pos, ◌-ℤ◌, ◌≤ℤ◌}
 use mathlib.Core.List.{Memᴰ as In}
-use Rattle.std.proofs.Math.Nat.{min_comm, max_comm}
 use Rattle.std.specs.Int.Signed.{mag}
 use Rattle.truss.specs.Limits.{max_links, min_level, max_level, max_named, max_index_bytes, max_chain_bytes}
 use Rattle.truss.specs.Lists.{filter, any, concat_map, count, range, same_list}
@@ -12,30 +10,29 @@ use Rattle.truss.specs.Graph.{Link, LinkSet, Pair, Graph, Triangle, IsTriangle, 
 use Rattle.truss.specs.Strength.{IsStrength}
 use Rattle.truss.specs.Chain.{AtLeast, StrongTriangle, Joined, InGroup}
 use Rattle.truss.specs.Shortest.{IsShortestFirst, triangle_before, shortest_chain}
-use Rattle.truss.specs.Support.{EachOnce, nothing, and_one}
+use Rattle.truss.specs.Support.{EachOnce}
 use Rattle.truss.specs.Group.{Group, least_link, group_at, groups, parent}
-use Rattle.truss.specs.Refusal.{Checked, Refusal, passed, refused, refuse, refuse_if, and_then}
+use Rattle.truss.specs.Refusal.{Refusal, passed, refused, refuse, refuse_if}
 use Rattle.truss.specs.Record.{field}
-use Rattle.truss.specs.LinksFile.{Links, accepted, graph_of_links, read_links, write_links, pairs_of, read_back}
+use Rattle.truss.specs.LinksFile.{accepted, read_links, write_links, read_back}
 use Rattle.truss.specs.Index.{Index, link_bytes, join_bytes, group_bytes, encode, decode, index_bytes}
-use Rattle.truss.specs.IndexFile.{links_file_in, if_index_is, read_index}
-use Rattle.truss.specs.Question.{Question, Answer, two_numbers, number, numbers, chain, ask_strength, ask_joined, ask_groups_at, ask_strongest, ask_all, ask_links, ask_chain, accounts_in, outside, answer, joined_up_to, group_links, empty_group, holds, is_group_at, groups_holding, strongest_holding, all_holding}
-use Rattle.truss.specs.Call.{Written, Asked, answer_bytes, answer_value, answer_second, answer_reply, settle, checked_answer, build, done, ask, ask_bytes, tally_at}
+use Rattle.truss.specs.IndexFile.{read_index}
+use Rattle.truss.specs.Question.{Question, Answer, two_numbers, number, numbers, chain, ask_strength, ask_joined, ask_groups_at, ask_strongest, ask_all, ask_links, ask_chain, accounts_in, outside, answer, joined_up_to, group_links, empty_group, holds, groups_holding, strongest_holding, all_holding}
+use Rattle.truss.specs.Call.{Written, answer_bytes, answer_reply, settle, checked_answer, build, done, ask, ask_bytes, tally_at}
 use Rattle.truss.specs.Stored.{ForestConnects, TreeHolds, row_at, group_row_at, Leads}
-use Rattle.truss.specs.Demand3.{Builds, AllOrNone, Demand3, OnlyShortMemory}
+use Rattle.truss.specs.Demand3.{Builds, Demand3, OnlyShortMemory}
 use Rattle.truss.specs.Kept.{RefusalKeeps}
-use Rattle.truss.specs.Firmness.{IsFirmness, FirmnessRule}
-use Rattle.truss.specs.Order.{ListedBefore, stronger, larger, earlier, InOrder, and_first, WellCounted, Inside, Level, Means, means_C, means_D, means_E, C_count, C_outside, C_level, D_count, D_outside, E_count, E_outside, OrderRule}
-use Rattle.truss.specs.Order.{nothing as no_group_lem}
+use Rattle.truss.specs.Firmness.{FirmnessRule}
+use Rattle.truss.specs.Order.{ListedBefore, InOrder, OrderRule}
 use Rattle.truss.specs.Listing.{Row, rows, newline, groups_word, no_row, decimal, row_text, listing_text}
 use Rattle.truss.specs.Ways.{Ways}
 use Rattle.truss.specs.Lone.{LoneRule}
 use Rattle.truss.specs.Windows.{refused_by, record_of, WindowRule, RecordRule}
 use Rattle.truss.specs.Run.{Seen, Run, own_answered, Asks, RunTallies, AsksBytes, RunRecord}
 use Rattle.truss.specs.Change.{Change, put_in, withdraw, change}
-use Rattle.truss.specs.Changes.{Tells, moved, Faulty, put_outside, put_equal, put_again, put_full, withdraw_outside, withdraw_none, ChangeRule, Changes, none, one, Changed, ChangesTell}
-use Rattle.truss.specs.Bets.{DayRecord, bet, new_limit, limit_after, stakes_taken, margin_of, groups_of, Tried, try_limit, records_in, margin_at, try_limit_bytes}
-use Rattle.truss.specs.Trial.{ByteIs, taken as is-taken, not_taken, limited, Sound, sound_bet, sound_limit, RecordFault, outside as bet-outside, stake, limit, DayFault, level, many, opened, recorded, NoFault, Closes, TrialRule}
+use Rattle.truss.specs.Changes.{Tells, moved, Faulty, ChangeRule, Changes, Changed, ChangesTell}
+use Rattle.truss.specs.Bets.{DayRecord, bet, new_limit, limit_after, stakes_taken, groups_of, Tried, try_limit, records_in, margin_at, try_limit_bytes}
+use Rattle.truss.specs.Trial.{DayFault, TrialRule}
 
 -- a question writes this list: its count and its numbers, two bytes each, if they fit; else 12
 abbrev pub ListsAll : List ℕ → Question → List ℕ → Type 0
@@ -73,6 +70,8 @@ as_row G g =
       lo = (link_at G (least_link g)).lo;
       hi = (link_at G (least_link g)).hi;
     }
+
+-- ---- a limit tried on a day's bets
 
 -- a trial is refused by a number, and what is lent stays
 abbrev pub TrialRefused : List ℕ → ℕ → ℕ → List DayRecord → ℕ → Type 0

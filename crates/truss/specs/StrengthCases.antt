@@ -1,11 +1,11 @@
 -- Worked cases of question A, held by computation: the strength of a link, and how many triangles of at least that weight hold it.
-use Rattle.std.specs.Prelude.{◌≡◌, refl, [], ◌∷◌, replicate}
+use Rattle.std.specs.Prelude.{◌≡◌, [], ◌∷◌, replicate}
 use Rattle.truss.specs.Graph.{link}
 use Rattle.truss.specs.Support.{support_at}
 use Rattle.truss.specs.Refusal.{passed}
 use Rattle.truss.specs.Question.{answer, ask_strength, ask_joined, two_numbers}
 use Rattle.truss.specs.Call.{ask}
-use Rattle.truss.specs.Cards.{pair, sevens, graph_b, index_a, index_b, bow_tie, five, nested, slow, weak_first, weak_last}
+use Rattle.truss.specs.Cards.{sevens, graph_b, index_a, index_b, bow_tie, five, nested, slow, weak_first, weak_last}
 
 pub record StrengthCases : Type 0 where
   -- card B: 2-3 and 3-4 are in three triangles each, of which 2-3-4 has weight 3, by its middle side 2-4

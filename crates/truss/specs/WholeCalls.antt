@@ -1,5 +1,5 @@
 -- Whole calls, held by computation: replies, places, every lent byte, the tallies, and the text of both programs.
-use Rattle.std.specs.Prelude.{◌≡◌, refl, [], ◌∷◌, ◌++◌, replicate}
+use Rattle.std.specs.Prelude.{◌≡◌, [], ◌∷◌, ◌++◌, replicate}
 use Rattle.truss.specs.LinksFile.{write_links}
 use Rattle.truss.specs.Question.{ask_strength, ask_joined, ask_groups_at, ask_strongest, ask_all, ask_links}
 use Rattle.truss.specs.Call.{build, read, ask, done, done_with}

@@ -14,9 +14,6 @@ pub bounds-start-a : goal.bounds-start-a
 bounds-start-a c = let p = c.requires in
     omega (arith, p.2.3.left.rows.long, hub_here p.2.3 p.1 p.2.4)
 
-pub overflow_cast-i : goal.overflow_cast-i
-overflow_cast-i c = omega (arith, c.shared_slice_known-3-1.given c.args.a)
-
 pub offset_bounds-stop-a : goal.offset_bounds-stop-a
 offset_bounds-stop-a c = let p = c.requires in
     omega (arith, p.1, p.2.3.named.small)
@@ -24,9 +21,6 @@ offset_bounds-stop-a c = let p = c.requires in
 pub bounds-stop-a : goal.bounds-stop-a
 bounds-stop-a c = let p = c.requires in
     omega (arith, p.2.3.left.wide, hub_here p.2.3 p.1 p.2.4)
-
-pub overflow_cast-end : goal.overflow_cast-end
-overflow_cast-end c = omega (arith, c.shared_slice_known-4-1.given c.args.a)
 
 pub loop-i-init : goal.loop-i-init
 loop-i-init c = let p = c.requires in

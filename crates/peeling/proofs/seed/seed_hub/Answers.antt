@@ -1,13 +1,6 @@
 -- `peeling::seed::seed_hub` meets its contract. Assumes nothing.
-use native.Mathlib.Omega.{arith}
 use Rattle.peeling.specs.Seed.{hub_here}
 use Rattle.peeling.proofs.seed.seed_hub.Goals as goal
-
-pub overflow_cast-stop : goal.overflow_cast-stop
-overflow_cast-stop c = omega (arith, c.shared_slice_known-3-1.given c.args.a)
-
-pub overflow_cast-start : goal.overflow_cast-start
-overflow_cast-start c = omega (arith, c.shared_slice_known-4-1.given c.args.a)
 
 pub overflow_sub-stop : goal.overflow_sub-stop
 overflow_sub-stop c = let p = c.requires in

@@ -1,6 +1,4 @@
 -- `definitions` promises the worked cases.
-use Rattle.truss.proofs.definitions.Statement.{statement}
-use Rattle.truss.proofs.definitions.Tie as tie
 use Rattle.truss.proofs.Cases.{cases, rule_cases, window_cases, field_cases}
 use Rattle.truss.proofs.StrengthCases.{strength_cases}
 use Rattle.truss.proofs.ChainCases.{chain_cases}
@@ -12,9 +10,7 @@ use Rattle.truss.proofs.ChangeCases.{change_cases}
 use Rattle.truss.proofs.BetsCases.{bets_cases}
 use Rattle.truss.proofs.Figures.{figures}
 use Rattle.truss.proofs.Spelled.{spelled}
+use Rattle.truss.proofs.definitions.Goals as goal
 
-returns : tie.Need-returns
+pub returns : goal.returns
 returns c = (cases, rule_cases, window_cases, field_cases, strength_cases, chain_cases, order_cases, lone_cases, whole_calls, desk_cases, change_cases, bets_cases, figures, spelled)
-
-pub definitions_spec : {M : Type 1} → statement M
-definitions_spec = tie.close (tie.spec returns)
