@@ -2,7 +2,7 @@
  * answered how often, plays an afternoon in which links come and go, reads to a customer the larger of two parties, finds two people who are a party by themselves, and
  * tries two limits on an afternoon's bets. After `rt lib` in crates/terminal:
  *
- *     gcc -std=c11 -O2 -Wall -Wextra -Werror -pedantic -Iinclude examples/host/host.c crates/terminal/out/libterminal.a -o target/host && target/host
+ *     gcc -std=c11 -O2 -Wall -Wextra -Werror -pedantic -Iinclude examples/host/host.c crates/terminal/out/libterminal.a -o host && ./host
  *
  * It prints what stands in the file stdout beside it. */
 #include "footballelm.h"
