@@ -2,4 +2,5 @@
 pub mod State
 pub mod Lists
 pub mod Centres
+pub mod Walk
 pub mod Marking

@@ -1,5 +1,5 @@
 -- A trial on the row of bytes that was made of the records is one on the records. Assumes nothing.
-use Rattle.std.specs.Prelude.{◌≡◌, refl, ◌⊎◌, cond, ◌||◌, List, [], ◌∷◌, ◌++◌, map, ℕ, zero, suc, ◌+◌, ◌*◌, ◌/◌, ◌%◌, ◌≤◌, ◌<◌, ltb, length, get_or, take, ℤ}
+use Rattle.std.specs.Prelude.{Result, ◌≡◌, refl, ◌⊎◌, cond, ◌||◌, List, [], ◌∷◌, ◌++◌, map, ℕ, zero, suc, ◌+◌, ◌*◌, ◌/◌, ◌%◌, ◌≤◌, ◌<◌, ltb, length, get_or, take, ℤ}
 use Rattle.std.proofs.Common.{sym, ap, ◌∙◌, inl, inr, suc-add, arith, take_all, take_at, length-take-le, ext_get_or, lt-ltb}
 use Rattle.std.proofs.Math.Nat.{min-le_left, min-le_right}
 use Rattle.std.proofs.lemmas.List.{length-map}
@@ -17,7 +17,7 @@ use Rattle.laws.proofs.Sets.{map_at}
 use Rattle.columns.specs.Columns.{entry_bound}
 use Rattle.columns.specs.Wiping.{zeros}
 use Rattle.wire.specs.Writing.{written, written_start}
-use Rattle.index.specs.declared.Reply.{Reply}
+use Rattle.limits.specs.declared.refusal.Refusal.{Refusal}
 use Rattle.day.specs.Records.{records-length, record_here}
 use Rattle.bets.specs.Row.{bet_bytes, row_of, row_of_length, no_bet}
 use Rattle.bets.specs.declared.Bet.{Bet}
@@ -100,7 +100,7 @@ module _ (bs : List Bet) {count : ℕ} (c : count ≡ counted bs) where
   counted_room = (omega (arith, c, min-le_left (length bs) most_bets), omega (arith, c, min-le_right (length bs) most_bets))
 
   -- a trial on the row that was made of the records is one on the records
-  pub limit_gives : (index : List ℕ) (k limit : ℕ) (taken : List ℕ) (margins : List ℤ) (r : Reply) (taken' : List ℕ) (margins' : List ℤ) {room row : List ℕ} → room ≡ zeros row_length → row ≡ written room 0 (row_of count bs)
+  pub limit_gives : (index : List ℕ) (k limit : ℕ) (taken : List ℕ) (margins : List ℤ) (r : Result ℕ Refusal) (taken' : List ℕ) (margins' : List ℤ) {room row : List ℕ} → room ≡ zeros row_length → row ≡ written room 0 (row_of count bs)
       → RowGives index row count k limit taken margins r taken' margins' → LimitGives index bs k limit taken margins r taken' margins'
   limit_gives index k limit taken margins r taken' margins' {room} {row} z w g = g ∙ ap (λ (rs : List DayRecord). try_limit index k limit rs taken margins) records ∙ whole (less_or_not most_bets (length bs))
     where

@@ -1,5 +1,5 @@
 -- The records of a day as one row of bytes, nine to a record. Assumes nothing.
-use Rattle.std.specs.Prelude.{◌≡◌, refl, List, [], ◌∷◌, ◌++◌, ℕ, zero, suc, ◌+◌, ◌*◌, ◌-◌, ◌≤◌, ◌<◌, length, take, get_or, drop}
+use Rattle.std.specs.Prelude.{◌≡◌, refl, List, [], ◌∷◌, ◌++◌, ℕ, zero, suc, ◌+◌, ◌*◌, ◌-◌, ◌/◌, ◌%◌, ◌≤◌, ◌<◌, length, take, get_or, drop}
 use Rattle.std.proofs.Common.{◌∙◌, add-one, arith, length-append, take-suc}
 use Rattle.truss.specs.Lists.{concat_map}
 use Rattle.truss.specs.Limits.{record_length}
@@ -15,6 +15,10 @@ bet_bytes b = b.kind ∷ (wide_field b.account ++ wide_field b.amount)
 -- the bytes of the first n records
 unfoldable pub row_of : ℕ → List Bet → List ℕ
 row_of n bs = concat_map bet_bytes (take n bs)
+
+-- the highest of four bytes
+pub top_byte : (x : ℕ) → x / 16777216 % 256 ≡ x / 65536 / 256 % 256
+top_byte x = omega arith
 
 -- what stands where no record is
 abbrev pub no_bet : Bet

@@ -2,7 +2,7 @@
 // copied into such a row of bytes, and margins are written as signed numbers. Both are tried by `trial`.
 #![tactic(auto)]
 
-ghost use Rattle.std.specs.Prelude.{◌≡◌, ◌+◌, ◌*◌, ◌≤◌, min, length};
+ghost use Rattle.std.specs.Prelude.{◌≡◌, ◌+◌, ◌*◌, ◌≤◌, length};
 ghost use Rattle.truss.specs.Limits.{record_length};
 ghost use Rattle.columns.specs.Wiping.{zeros};
 ghost use Rattle.wire.specs.Writing.{written};
@@ -10,9 +10,9 @@ ghost use Rattle.bets.specs.Row.{bet_bytes, row_of};
 ghost use Rattle.bets.specs.Limit.{LimitGives, RowGives, row_length};
 
 use columns::{COLUMNS, room};
-use index::open::{Opening, open};
-use index::{Reply, answered};
+use limits::refusal::Refusal;
 use limits::{MOST_RECORDS, RECORD_BYTES};
+use stored::opened::Index;
 use trial::try_of;
 use wire::paste;
 
@@ -24,7 +24,7 @@ const MOST_BETS: usize = MOST_RECORDS + 1;
 // Their bytes.
 const ROW_BYTES: usize = MOST_BETS * RECORD_BYTES;
 
-// A record of a day: a bet, if kind is 0, of a stake on an account; else a new limit.
+// A record of a day: a bet, if kind is 0, of a stake on an account; else a new limit. The kind is a byte and no enum: every byte is taken, as by the definition, and an enum would take fewer.
 #[derive(Clone, Copy)]
 pub struct Bet {
     pub kind: u8,
@@ -33,23 +33,12 @@ pub struct Bet {
 }
 
 // A record as bytes.
-fn bet_record(b: Bet) -> [u8; RECORD_BYTES]
-    ensures { result ≡ bet_bytes b }
+fn bet_record(bet: Bet) -> [u8; RECORD_BYTES]
+    ensures { result ≡ bet_bytes bet }
 {
-    let x = b.account as usize;
-    let y = b.amount as usize;
-    let kind = b.kind;
-    [
-        kind,
-        (x / 65536 / 256 % 256) as u8,
-        (x / 65536 % 256) as u8,
-        (x / 256 % 256) as u8,
-        (x % 256) as u8,
-        (y / 65536 / 256 % 256) as u8,
-        (y / 65536 % 256) as u8,
-        (y / 256 % 256) as u8,
-        (y % 256) as u8,
-    ]
+    let [a, b, c, d] = bet.account.to_be_bytes();
+    let [e, f, g, h] = bet.amount.to_be_bytes();
+    [bet.kind, a, b, c, d, e, f, g, h]
 }
 
 // A record, put in its place in the row; every other byte stays.
@@ -67,11 +56,8 @@ fn copy_bets(bets: &[Bet], count: usize, row: &mut [u8])
     requires { (count ≤ length bets.now) × (record_length * count ≤ length row.old) }
     ensures { row.new ≡ written row.old 0 (row_of count bets.now) }
 {
-    let mut i: usize = 0;
-    while i < count {
-        let b = bets[i];
-        put_bet(row, i, b);
-        i += 1;
+    for i in 0..count {
+        put_bet(row, i, bets[i]);
     }
 }
 
@@ -80,12 +66,6 @@ fn row_room() -> [u8; ROW_BYTES]
     ensures { result ≡ zeros row_length }
 {
     [0u8; ROW_BYTES]
-}
-
-fn fewer(a: usize, b: usize) -> usize
-    ensures { result ≡ min a b }
-{
-    if a < b { a } else { b }
 }
 
 // A limit tried on the first records of a row of bytes; margins are written as numbers.
@@ -97,28 +77,23 @@ fn try_row(
     limit: u32,
     taken: &mut [u8],
     margins: &mut [i64],
-) -> Reply
+) -> Result<u32, Refusal>
     requires { record_length * count ≤ length row.now }
     ensures { RowGives index.now row.now count k limit taken.old margins.old result taken.new margins.new }
 {
     let mut work = room();
-    match open(index, &mut work) {
-        Opening::NoIndex => answered(7, 0),
-        Opening::Index(o) => {
-            let size = COLUMNS * o.m;
-            let len = RECORD_BYTES * count;
-            try_of(
-                index,
-                o,
-                &row[..len],
-                k as usize,
-                limit as usize,
-                taken,
-                margins,
-                &mut work[..size],
-            )
-        }
-    }
+    let opened = Index::open(index, &mut work)?;
+    let size = COLUMNS * opened.m;
+    let len = RECORD_BYTES * count;
+    try_of(
+        opened,
+        &row[..len],
+        k as usize,
+        limit as usize,
+        taken,
+        margins,
+        &mut work[..size],
+    )
 }
 
 // A limit tried on the records lent: the first of them are copied into a row of bytes, on which it is tried.
@@ -129,10 +104,10 @@ pub fn try_limit(
     limit: u32,
     taken: &mut [u8],
     margins: &mut [i64],
-) -> Reply
+) -> Result<u32, Refusal>
     ensures { LimitGives index.now bets.now k limit taken.old margins.old result taken.new margins.new }
 {
-    let count = fewer(bets.len(), MOST_BETS);
+    let count = bets.len().min(MOST_BETS);
     let mut row = row_room();
     copy_bets(bets, count, &mut row);
     try_row(index, &row, count, k, limit, taken, margins)

@@ -10,11 +10,12 @@ const ROOM: usize = 65536;
 
 // The answer to a links file: its index, or the refusal's line.
 fn answer<W: Write + Drop>(mut out: W, links: &[u8], index: &mut [u8]) -> io::Result<()> {
-    let r = index::build::build(links, index);
-    if r.refusal != 0 {
-        return writeln!(out, "refused {} {}", r.refusal, r.value);
-    }
-    let len = r.value as usize;
+    let len = match index::build::build(links, index) {
+        Ok(len) => len as usize,
+        Err(fault) => {
+            return writeln!(out, "refused {} {}", fault.refusal.number(), fault.place);
+        }
+    };
     if len <= index.len() {
         return out.write_all(&index[..len]);
     }

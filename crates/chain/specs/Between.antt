@@ -1,8 +1,8 @@
 -- Question G on the bytes of an index: `lead_in`, `way_between`, `between_in`, `chain_between`. Assumes nothing.
-use Rattle.std.specs.Prelude.{◌≡◌, refl, ◌⊎◌, ◌≢◌, true, ℕ, ◌+◌, ◌*◌, ◌-◌, ◌≤◌, ◌<◌, ◌/◌, ◌%◌, length, take, drop}
+use Rattle.std.specs.Prelude.{Some, None, ◌≡◌, refl, ◌⊎◌, ◌≢◌, true, ℕ, ◌+◌, ◌*◌, ◌-◌, ◌≤◌, ◌<◌, ◌/◌, ◌%◌, length, take, drop}
 use Rattle.std.proofs.Common.{sym, ◌∙◌, inl, inr, arith, length-append, length-drop, get_or-drop, get_or-append-add, length-take-le}
 use Rattle.std.proofs.Math.Path.{ap}
-use mathlib.Core.List.{List, [], ◌++◌}
+use mathlib.Core.List.{List, [], ◌∷◌, ◌++◌}
 use Rattle.std.proofs.Math.ListN.{get_or}
 use Rattle.std.proofs.Math.Seq.{get_or-take}
 use Rattle.truss.specs.Graph.{Link, Graph, Triangle, link, member, link_number, link_at}
@@ -20,12 +20,12 @@ use Rattle.laws.proofs.Shortest.{shortest_is, shortest_unique, shortest_none, ch
 use Rattle.laws.proofs.ShortestRoom.{chain_length}
 use Rattle.columns.specs.Columns.{cell, KEY, COLUMNS, HALF, link_bound}
 use Rattle.columns.specs.Wiping.{Zeros, zeros, zeros_at, zeros-length}
-use Rattle.adjacency.specs.State.{Marks, Mark, none, some}
+use Rattle.adjacency.specs.State.{Marks}
 use Rattle.adjacency.specs.Lists.{ListsDone, named_keyed}
 use Rattle.adjacency.specs.Marking.{MarkPre}
 use Rattle.stored.specs.Rows.{graph_in, IsIndex, index-order, few_links}
 use Rattle.wire.specs.Writing.{written}
-use Rattle.thirds.specs.Find.{FindPre}
+use Rattle.thirds.specs.Find.{FindPre, Known, absent, present}
 use Rattle.thirds.specs.Look.{Keyed, keyed}
 use Rattle.chain.specs.Wave.{dist, Led}
 use Rattle.chain.specs.Follow.{followed, followed-length, first_way, no_way}
@@ -89,6 +89,10 @@ module _ {G : Graph} {m n e f : ℕ} {w start mark : List ℕ} (P : LeadPre G m 
         blank = λ y l. L.keyed.above NEAREST y (omega arith) l ∙ P.blank y l;
       }
 
+  -- link e is not reached
+  pub lead_none : {v : ℕ} {w₁ w₂ : List ℕ} → Searched G f e m n w₁ w₂ → v ≡ nearest w₂ m e → v ≡ 0 → Leads G m n e f 0 w₂
+  lead_none S q z = record { given = S.given; led = S.led; count = omega (arith, sym z ∙ q) }
+
   pub lead_done : {v : ℕ} {w₁ w₂ : List ℕ} → Searched G f e m n w₁ w₂ → v ≡ nearest w₂ m e → Leads G m n e f (v / HALF) w₂
   lead_done S q = record { given = S.given; led = S.led; count = ap (λ (x : ℕ). x / HALF) q }
 
@@ -125,6 +129,14 @@ way-none G k m a b c d from w z = record {
   bytes = λ out out' C. C.none refl ∙ ap (λ (ts : List Triangle). written out 0 (answer_bytes (chain ts))) (sym z);
 }
 
+-- and no link with which it begins
+pub way_empty : {G : Graph} {k m a b c d from : ℕ} {w : List ℕ} → WayIs G k m a b c d from 0 w → WayIs G k m a b c d 0 0 w
+way_empty {G} {k} {m} {a} {b} {c} {d} {from} {w} W = way-none G k m a b c d 0 w (nil (the_way G k a b c d) W.long)
+  where
+    nil : (ts : List Triangle) → 0 ≡ length ts → ts ≡ []
+    nil [] q = refl
+    nil (t ∷ ts) q = absurd (omega (arith, q))
+
 module _ {G : Graph} {k m n a b c d : ℕ} {w : List ℕ} (P : WayPre G k m n a b c d w) where
   abbrev H : Graph
   H = strong_of G k
@@ -142,34 +154,34 @@ module _ {G : Graph} {k m n a b c d : ℕ} {w : List ℕ} (P : WayPre G k m n a 
   strong_end {e} j = let s = joined_first G k j in member_strong G P.order k e (link_of_at_least G k e s) (at_least_strength G k e s)
 
   -- a link that is not there is joined with none
-  pub way_no_first : {r : ℕ} (w' : List ℕ) → Mark H a b r → r ≡ 0 → WayIs G k m a b c d 0 0 w'
-  way_no_first w' (some h q) z = absurd (omega (arith, q, z))
-  way_no_first w' (none h q) z = way-none G k m a b c d 0 w' ((shortest_none G P.order k (link a b) (link c d)).1 (λ j. true_not_false (strong_end j) h))
+  pub way_no_first : (w' : List ℕ) → Known H a b None → WayIs G k m a b c d 0 0 w'
+  way_no_first w' (present h q) = absurd cc
+  way_no_first w' (absent h q) = way-none G k m a b c d 0 w' ((shortest_none G P.order k (link a b) (link c d)).1 (λ j. true_not_false (strong_end j) h))
 
-  pub way_no_second : {r : ℕ} (w' : List ℕ) → Mark H c d r → r ≡ 0 → WayIs G k m a b c d 0 0 w'
-  way_no_second w' (some h q) z = absurd (omega (arith, q, z))
-  way_no_second w' (none h q) z = way-none G k m a b c d 0 w' ((shortest_none G P.order k (link a b) (link c d)).1 (λ j. true_not_false (strong_end (joined_sym G k j)) h))
+  pub way_no_second : (w' : List ℕ) → Known H c d None → WayIs G k m a b c d 0 0 w'
+  way_no_second w' (present h q) = absurd cc
+  way_no_second w' (absent h q) = way-none G k m a b c d 0 w' ((shortest_none G P.order k (link a b) (link c d)).1 (λ j. true_not_false (strong_end (joined_sym G k j)) h))
 
   -- one that is there has a number
-  found : (u v : ℕ) {r : ℕ} → Mark H u v r → r ≢ 0 → (r - 1 < m) × (link_at H (r - 1) ≡ link u v)
-  found u v (none h q) z = absurd (z q)
-  found u v {r} (some h q) z =
-      let e : r - 1 ≡ link_number H (link u v) = omega (arith, q) in
-      (omega (arith, e, number_lt H (link u v) h, P.given.named.count), ap (link_at H) e ∙ link_of_number H (link u v) h)
+  found : (u v : ℕ) {e : ℕ} → Known H u v (Some e) → (e < m) × (link_at H e ≡ link u v)
+  found u v (absent h q) = absurd cc
+  found u v {e} (present h q) =
+      let z : e ≡ link_number H (link u v) = cc in
+      (omega (arith, z, number_lt H (link u v) h, P.given.named.count), ap (link_at H) z ∙ link_of_number H (link u v) h)
 
-  module _ {e f : ℕ} (E : Mark H a b e) (en : e ≢ 0) (F : Mark H c d f) (fn : f ≢ 0) where
-    pub way_lead : {start mark : List ℕ} → length start ≡ n + 1 → length mark ≡ n → LeadPre H m n (e - 1) (f - 1) w start mark
+  module _ {e f : ℕ} (E : Known H a b (Some e)) (F : Known H c d (Some f)) where
+    pub way_lead : {start mark : List ℕ} → length start ≡ n + 1 → length mark ≡ n → LeadPre H m n e f w start mark
     way_lead p q = record {
       given = P.given;
-      e_in = (found a b E en).0;
-      f_in = (found c d F fn).0;
+      e_in = (found a b E).0;
+      f_in = (found c d F).0;
       blank = P.blank;
       long = p;
       wide = q;
     }
 
-    pub way-done : {count : ℕ} {w' : List ℕ} → Leads H m n (e - 1) (f - 1) count w' → WayIs G k m a b c d (e - 1) count w'
-    way-done {count} {w'} L = go (same_or_not (nearest w' m (e - 1)) 0)
+    pub way-done : {count : ℕ} {w' : List ℕ} → Leads H m n e f count w' → WayIs G k m a b c d e count w'
+    way-done {count} {w'} L = go (same_or_not (nearest w' m e) 0)
       where
         X : ℕ → ℕ
         X = nearest w' m
@@ -177,19 +189,19 @@ module _ {G : Graph} {k m n a b c d : ℕ} {w : List ℕ} (P : WayPre G k m n a 
         tiny : H.n ≤ HALF
         tiny = omega (arith, L.given.named.accounts, L.given.named.small)
 
-        el : e - 1 < m
-        el = (found a b E en).0
+        el : e < m
+        el = (found a b E).0
 
-        at_e : link_at H (e - 1) ≡ link a b
-        at_e = (found a b E en).1
+        at_e : link_at H e ≡ link a b
+        at_e = (found a b E).1
 
-        at_f : link_at H (f - 1) ≡ link c d
-        at_f = (found c d F fn).1
+        at_f : link_at H f ≡ link c d
+        at_f = (found c d F).1
 
-        go : (nearest w' m (e - 1) ≡ 0) ⊎ (nearest w' m (e - 1) ≢ 0) → WayIs G k m a b c d (e - 1) count w'
+        go : (nearest w' m e ≡ 0) ⊎ (nearest w' m e ≢ 0) → WayIs G k m a b c d e count w'
         go (inl z) =
             let zero : count ≡ 0 = omega (arith, L.count, z) in
-            rw zero (way-none G k m a b c d (e - 1) w' ((shortest_none G P.order k (link a b) (link c d)).1 none_there))
+            rw zero (way-none G k m a b c d e w' ((shortest_none G P.order k (link a b) (link c d)).1 none_there))
           where
             none_there : Joined G k (link a b) (link c d) → ⊥
             none_there j =
@@ -197,17 +209,17 @@ module _ {G : Graph} {k m n a b c d : ℕ} {w : List ℕ} (P : WayPre G k m n a 
                 no_way L.given.named.proper L.given.named.count tiny L.led G k (strong_heavy G P.order k) (heavy_strong G P.order k) el z ch.0
                 (rw (at_e, at_f) ch.1)
         go (inr n') = record {
-          asks = something H (f - 1) n (record { given = L.given; led = L.led; e_in = el; count_is = L.count });
-          long = sym (followed-length H (nearest w' m) (sides w' m) count (e - 1)) ∙ ap length is;
+          asks = something H f n (record { given = L.given; led = L.led; e_in = el; count_is = L.count });
+          long = sym (followed-length H (nearest w' m) (sides w' m) count e) ∙ ap length is;
           bytes = λ out out' C.
-              C.some H (f - 1) n (record { given = L.given; led = L.led; e_in = el; count_is = L.count }) ∙ ap (λ (ts : List Triangle). written out 0 (answer_bytes (chain ts))) is;
+              C.some H f n (record { given = L.given; led = L.led; e_in = el; count_is = L.count }) ∙ ap (λ (ts : List Triangle). written out 0 (answer_bytes (chain ts))) is;
         }
           where
-            W : IsShortestFirst G k (link a b) (link c d) (followed H (nearest w' m) (sides w' m) count (e - 1))
+            W : IsShortestFirst G k (link a b) (link c d) (followed H (nearest w' m) (sides w' m) count e)
             W = rw (← at_e, ← at_f, L.count)
                 (first_way L.given.named.proper L.given.named.count tiny L.led G k (strong_heavy G P.order k) (heavy_strong G P.order k) el n')
 
-            is : followed H (nearest w' m) (sides w' m) count (e - 1) ≡ the_way G k a b c d
+            is : followed H (nearest w' m) (sides w' m) count e ≡ the_way G k a b c d
             is = shortest_unique G k (link a b) (link c d) _ _ W (shortest_is G P.order k (link a b) (link c d) (chain_joined W.is_chain))
 
 -- ---- on the bytes of an index

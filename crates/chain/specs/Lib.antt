@@ -4,6 +4,7 @@ pub mod Corners
 pub mod Wave
 pub mod Follow
 pub mod Search
+pub mod Ways
 pub mod Write
 pub mod Strong
 pub mod Load

@@ -1,4 +1,4 @@
--- The links of strength at least k of an index, loaded: `count_strong`, `load_link`, `load_strong`. Assumes nothing.
+-- The links of strength at least k of an index, loaded: `count_strong`, `load_strong`. Assumes nothing.
 use Rattle.std.specs.Prelude.{◌≡◌, refl, ◌⊎◌, ◌≢◌, List, [], ◌∷◌, ◌++◌, ℕ, ◌+◌, ◌*◌, ◌≤◌, ◌<◌, length, get_or}
 use Rattle.std.proofs.Common.{sym, ap, ◌∙◌, inl, inr, arith}
 use Rattle.std.proofs.Math.ListN.{get_or-append}
@@ -15,19 +15,6 @@ use Rattle.chain.specs.Strong.{strong_of, strong_to, strong_none, strong_all, st
 -- a link's key
 abbrev pub link_key : Link → ℕ
 link_key e = e.lo * HALF + e.hi
-
--- ---- one link
-
-pub record LoadPre (k h i j : ℕ) (s w : List ℕ) : Type 0 where
-  pub is_index : IsIndex s
-  pub i_in : i < size (graph_in s)
-  pub long : length w ≡ COLUMNS * h
-  pub few : h ≤ link_bound
-  pub room : k ≤ strength_at (graph_in s) i → j < h
-
-pub data KeepGives (k h i j r : ℕ) (s w w' : List ℕ) : Type 0 where
-  skipped : strength_at (graph_in s) i < k → r ≡ j → w' ≡ w → KeepGives k h i j r s w w'
-  taken : k ≤ strength_at (graph_in s) i → r ≡ j + 1 → w' ≡ store w h KEY j (link_key (link_at (graph_in s) i)) → KeepGives k h i j r s w w'
 
 -- ---- the first i links
 
@@ -48,22 +35,23 @@ module _ {s : List ℕ} {k h i j : ℕ} {w₀ w : List ℕ} (I : IsIndex s) (hq 
   pub loading_few : h ≤ link_bound
   loading_few = omega (arith, hq, strong_fewer G k, few_links I)
 
-  room : k ≤ strength_at G i → j < h
-  room strong = omega (arith, hq, L.count, strong_count G k i l strong, strong_within G k (i + 1))
+  pub loading_room : k ≤ strength_at (graph_in s) i → j < h
+  loading_room strong = omega (arith, hq, L.count, strong_count G k i l strong, strong_within G k (i + 1))
 
-  pub loading_pre : LoadPre k h i j s w
-  loading_pre = record { is_index = I; i_in = l; long = L.length_is ∙ size₀; few = loading_few; room = room }
-
-  pub loading_next : {r : ℕ} {w' : List ℕ} → KeepGives k h i j r s w w' → Loading (graph_in s) k h (i + 1) r w₀ w'
-  loading_next {r} {w'} (skipped weak rj wk) =
+  -- link i is left out
+  pub loading_skip : strength_at (graph_in s) i < k → Loading (graph_in s) k h (i + 1) j w₀ w
+  loading_skip weak =
       let same = strong_skip G k i l weak in
-      rw (rj, wk) (record {
+      record {
         count = L.count ∙ sym (ap length same);
         length_is = L.length_is;
         keys = λ y yl. rw same (L.keys y yl);
         others = L.others;
-      })
-  loading_next {r} {w'} (taken strong rj wk) = rw (rj, wk) (record {
+      }
+
+  -- its key goes to place j
+  pub loading_take : k ≤ strength_at (graph_in s) i → {x : ℕ} → x ≡ link_key (link_at (graph_in s) i) → Loading (graph_in s) k h (i + 1) (j + 1) w₀ (store w h KEY j x)
+  loading_take strong q = rw q (record {
     count = omega (arith, L.count, strong_count G k i l strong);
     length_is = length-store w h KEY j (link_key (link_at G i)) ∙ L.length_is;
     keys = λ y yl. key y yl (same_or_not y j);
@@ -71,7 +59,7 @@ module _ {s : List ℕ} {k h i j : ℕ} {w₀ w : List ℕ} (I : IsIndex s) (hq 
   })
     where
       jl : j < h
-      jl = room strong
+      jl = loading_room strong
 
       more : strong_to (graph_in s) k (i + 1) ≡ strong_to (graph_in s) k i ++ (link_at (graph_in s) i ∷ [])
       more = strong_take (graph_in s) k i l strong
@@ -119,17 +107,12 @@ loaded_given {s} {k} {h} I hq long L =
 
 -- ---- how many there are
 
-pub data OneIf (k i r : ℕ) (s : List ℕ) : Type 0 where
-  weak : strength_at (graph_in s) i < k → r ≡ 0 → OneIf k i r s
-  strong : k ≤ strength_at (graph_in s) i → r ≡ 1 → OneIf k i r s
+module _ (G : Graph) (k i : ℕ) {c : ℕ} (l : i < size G) (q : c ≡ length (strong_to G k i)) where
+  pub count_skip : strength_at G i < k → c ≡ length (strong_to G k (i + 1))
+  count_skip h = omega (arith, q, ap length (strong_skip G k i l h))
 
-pub count_next : {s : List ℕ} {k i c r : ℕ} → i < size (graph_in s) → c ≡ length (strong_to (graph_in s) k i) → OneIf k i r s → c + r ≡ length (strong_to (graph_in s) k (i + 1))
-count_next {s} {k} {i} l q (weak h z) = omega (arith, q, z, ap length (strong_skip (graph_in s) k i l h))
-count_next {s} {k} {i} l q (strong h z) = omega (arith, q, z, strong_count (graph_in s) k i l h)
-
-pub one_small : {s : List ℕ} {k i r : ℕ} → OneIf k i r s → r ≤ 1
-one_small (weak h z) = omega (arith, z)
-one_small (strong h z) = omega (arith, z)
+  pub count_take : k ≤ strength_at G i → c + 1 ≡ length (strong_to G k (i + 1))
+  count_take h = omega (arith, q, strong_count G k i l h)
 
 pub count_small : {s : List ℕ} (k i : ℕ) → IsIndex s → length (strong_to (graph_in s) k i) ≤ link_bound
 count_small {s} k i I = omega (arith, strong_within (graph_in s) k i, strong_fewer (graph_in s) k, few_links I)

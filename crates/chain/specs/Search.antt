@@ -1,6 +1,7 @@
 -- The search: `offer`, `offer_all`, `offer_listed`, `spread`, `is_settled`, `search`. Assumes nothing.
-use Rattle.std.specs.Prelude.{◌≡◌, refl, ◌⊎◌, ◌≢◌, Bool, true, false, List, ℕ, ◌+◌, ◌*◌, ◌-◌, ◌≤◌, ◌<◌, ◌/◌, ◌%◌, length}
+use Rattle.std.specs.Prelude.{leb, ◌≡◌, refl, ◌⊎◌, ◌≢◌, Bool, true, false, List, ℕ, ◌+◌, ◌*◌, ◌-◌, ◌≤◌, ◌<◌, ◌/◌, ◌%◌, length}
 use Rattle.std.proofs.Common.{sym, ap, ◌∙◌, subst, inl, inr, arith}
+use borrow.Author.Tests.{lt-leb, le-leb}
 use Rattle.truss.specs.Limits.{max_accounts}
 use Rattle.truss.specs.Graph.{Link, Graph, Triangle, Has, link, member, link_number, link_at}
 use Rattle.laws.proofs.Lists.{true_not_false}
@@ -609,6 +610,14 @@ pub record SettledAsks (m e : ℕ) (w : List ℕ) : Type 0 where
 pub data Settled (m e d : ℕ) (r : Bool) (w : List ℕ) : Type 0 where
   settled : r ≡ true → nearest w m e ≢ 0 → dist (nearest w m) e ≤ d → Settled m e d r w
   unsettled : r ≡ false → Settled m e d r w
+
+-- by the entry that is looked at
+pub settled_by : {m e d : ℕ} {w : List ℕ} (x : ℕ) → x ≡ nearest w m e → x ≢ 0 → Settled m e d (leb (x / HALF) d) w
+settled_by {m} {e} {d} {w} x q n = go (less_or_not d (x / HALF))
+  where
+    go : (d < x / HALF) ⊎ (x / HALF ≤ d) → Settled m e d (leb (x / HALF) d) w
+    go (inl l) = unsettled (lt-leb (x / HALF) d l)
+    go (inr l) = settled (le-leb (x / HALF) d l) (λ z. n (q ∙ z)) (omega (arith, l, q))
 
 pub settled_is : {m e d : ℕ} {r : Bool} {w : List ℕ} → Settled m e d r w → r ≡ true → (nearest w m e ≢ 0) × (dist (nearest w m) e ≤ d)
 settled_is (settled t n l) q = (n, l)

@@ -4,9 +4,9 @@ ghost use Rattle.chain.specs.Search.{OfferPre, Offer, AllAsks, AllGives, OverAsk
 use columns::{HALF, QUEUE, get, put};
 use thirds::list::{MET, SIDE, thirds};
 
-// Of each link: distance * HALF + third account, 0 while it is not reached. Of the first link and of those nearer than it, the distance is the number of
-// triangles of a shortest chain to the second link, and the third account makes the first triangle of such a chain, the first by accounts. Of the others it is
-// no less than that number: the search stops before they are settled.
+// Of each link: distance * HALF + third account, 0 while it is not reached. (A cell is a number and no Option: nothing is allocated.) Of the first link and of those
+// nearer than it, the distance is the number of triangles of a shortest chain to the second link, and the third account makes the first triangle of such a chain,
+// the first by accounts. Of the others it is no less than that number: the search stops before they are settled.
 pub const NEAREST: usize = 3;
 
 // The other two links of that triangle, one * HALF + other.
@@ -76,12 +76,10 @@ fn offer_listed(
     ensures { OverGives m d a b p count from result w.old w.new }
 {
     let mut tail = from;
-    let mut j: usize = 0;
-    while j < count {
+    for j in 0..count {
         let g = get(w, m, SIDE, j);
         let x = get(w, m, MET, j);
         tail = offer_all(w, m, d, a, b, x / HALF, p, g - 1, x % HALF, tail);
-        j += 1;
     }
     tail
 }
@@ -103,10 +101,7 @@ fn spread(
 {
     let l = thirds(w, m, n, start, mark, p, at);
     let tail = offer_listed(w, m, d, l.centre, l.walked, p, l.count, from);
-    Front {
-        tail: tail,
-        at: l.at,
-    }
+    Front { tail, at: l.at }
 }
 
 // Whether link e is reached at a distance of no more than d.
@@ -115,13 +110,7 @@ fn is_settled(w: &[u32], m: usize, e: usize, d: usize) -> bool
     ensures { Settled m e d result w.now }
 {
     let x = get(w, m, NEAREST, e);
-    if x == 0 {
-        return false;
-    }
-    if d < x / HALF {
-        return false;
-    }
-    true
+    x != 0 && x / HALF <= d
 }
 
 // Columns NEAREST and SIDES for chains from link e to link f, where nothing is reached yet: f is spread first, then the links that wait, until the first of them
@@ -143,8 +132,7 @@ pub fn search(
     let mut d: usize = 1;
     let mut at = from;
     let mut tail: usize = 0;
-    let mut head: usize = 0;
-    while head <= m {
+    for head in 0..m + 1 {
         let s = spread(w, m, n, start, mark, d, p, at, tail);
         tail = s.tail;
         at = s.at;
@@ -157,6 +145,5 @@ pub fn search(
             return;
         }
         d += 1;
-        head += 1;
     }
 }

@@ -1,9 +1,9 @@
 -- The two calls: what they promise, and the ways to it. Assumes nothing.
-use Rattle.std.specs.Prelude.{◌≡◌, ◌⊎◌, ◌≢◌, List, map, ℕ, ◌+◌, ◌*◌, ◌-◌, ◌≤◌, ◌<◌, length}
+use Rattle.std.specs.Prelude.{Option, None, Some, Result, Err, ◌≡◌, ◌⊎◌, ◌≢◌, List, map, ℕ, ◌+◌, ◌*◌, ◌-◌, ◌≤◌, ◌<◌, length}
 use Rattle.std.proofs.Math.Path.{sym, ap, subst}
 use Rattle.std.proofs.Common.{◌∙◌, inl, inr, arith}
 use Rattle.truss.specs.Limits.{max_links}
-use Rattle.truss.specs.Graph.{Graph, graph_of, link, link_of, link_number}
+use Rattle.truss.specs.Graph.{Graph, graph_of, link, link_of}
 use Rattle.truss.specs.Refusal.{passed, refuse, and_then, map_passed}
 use Rattle.truss.specs.Record.{field_at}
 use Rattle.truss.specs.Index.{index_bytes}
@@ -16,39 +16,46 @@ use Rattle.laws.proofs.Accepted.{graph_in_lem}
 use Rattle.laws.proofs.Changes.{Altered, Fits, put_fits, withdraw_fits, accounts_of_lem, altered_pairs, altered-named, faulty_altered, fits_altered, change-read, change_rule}
 use Rattle.columns.specs.Columns.{COLUMNS}
 use Rattle.columns.specs.Named.{Named}
+use Rattle.limits.specs.declared.refusal.Refusal.{Refusal}
+use Rattle.limits.specs.Refusals.{number_of, checked}
 use Rattle.index.specs.declared.Reply.{Reply as CReply}
-use Rattle.index.specs.Build.{FinishGives, Replies, replied, reply_with}
+use Rattle.index.specs.Build.{FinishGives, given_back, replied, reply_of}
 use Rattle.index.specs.Solved.{SolveAsks, SolveGiven}
 use Rattle.index.specs.Open.{pairs_in}
 use Rattle.stored.specs.Rows.{graph_in, IsIndex, Shape}
-use Rattle.stored.specs.Find.{found_link, no_such_link, found_in}
+use Rattle.stored.specs.Find.{number_there, found_link, no_such_link, found_in}
 use Rattle.altering.specs.Keys.{PutAsks, TakeAsks}
 
--- THE PROMISE of a change: its reply and every byte of the second buffer are what the definition gives. The index is lent to read.
-abbrev pub ChangeGives : Change → List ℕ → List ℕ → CReply → List ℕ → Type 0
-ChangeGives c bytes lent r after = replied r after ≡ change c bytes lent
+-- THE PROMISE of a change: its result and every byte of the second buffer are what the definition gives. The index is lent to read.
+abbrev pub ChangeGives : Change → List ℕ → List ℕ → Result ℕ Refusal → List ℕ → Type 0
+ChangeGives c bytes lent r after = given_back (checked r) after ≡ change c bytes lent
+
+-- the same of a reply to a C host
+abbrev pub ChangeReplies : Change → List ℕ → List ℕ → CReply → List ℕ → Type 0
+ChangeReplies c bytes lent r after = replied r after ≡ change c bytes lent
 
 -- the same, of the links that were read
 abbrev pub change_of : Change → Graph → List ℕ → Written
 change_of c G out = write (check_room (map_passed index_bytes (altered c G)) out) out
 
-abbrev pub Alters : Change → Graph → List ℕ → CReply → List ℕ → Type 0
-Alters c G out r after = replied r after ≡ change_of c G out
+abbrev pub Alters : Change → Graph → List ℕ → Result ℕ Refusal → List ℕ → Type 0
+Alters c G out r after = given_back (checked r) after ≡ change_of c G out
 
 -- ---- 7, and the call by the links
 
 module _ (c : Change) (b out : List ℕ) where
-  pub changes_7 : {r : CReply} → read_index b ≡ refuse 7 0 → Replies r 7 0 → ChangeGives c b out r out
-  changes_7 q R = reply_with out R ∙ sym (change_rule.no_index c b out q)
+  pub changes_7 : (r : Result ℕ Refusal) → read_index b ≡ refuse 7 0 → checked r ≡ refuse 7 0 → ChangeGives c b out r out
+  unfolding reply_of
+  changes_7 r q R = ap (λ x. given_back x out) R ∙ sym (change_rule.no_index c b out q)
 
-  pub changes_of : {G : Graph} {r : CReply} {after : List ℕ} → read_index b ≡ passed G → Alters c G out r after → ChangeGives c b out r after
-  changes_of q A = A ∙ sym (change-read c b out q)
+  pub changes_of : {G : Graph} (r : Result ℕ Refusal) {after : List ℕ} → read_index b ≡ passed G → Alters c G out r after → ChangeGives c b out r after
+  changes_of r q A = A ∙ sym (change-read c b out q)
 
 -- ---- a change with a fault
 
-pub alters_not : {c : Change} {G : Graph} (out : List ℕ) {r : CReply} {k : ℕ} → Faulty G c k → Replies r k 0 → Alters c G out r out
-unfolding map_passed check_room and_then write
-alters_not out F R = reply_with out R ∙ sym (ap (λ x. write (check_room (map_passed index_bytes x) out) out) (faulty_altered F))
+pub alters_not : {c : Change} {G : Graph} (out : List ℕ) (e : Refusal) → Faulty G c (number_of e) → Alters c G out (Err e) out
+unfolding map_passed check_room and_then write checked reply_of
+alters_not out e F = sym (ap (λ x. write (check_room (map_passed index_bytes x) out) out) (faulty_altered F))
 
 -- by the numbers that the opening and the look-up give
 module _ {s : List ℕ} {n m at count : ℕ} (S : Shape s n m at count) (a b : ℕ) where
@@ -71,38 +78,38 @@ module _ {s : List ℕ} {n m at count : ℕ} (S : Shape s n m at count) (a b : �
     pub faulty_5 : a ≡ b → Faulty G (put_in a b) 5
     faulty_5 q = put_equal first_below second_below q
 
-    module _ {r : ℕ} (q : r ≡ link_number G (link a b)) where
-      pub faulty_14 : a ≢ b → r ≢ m → Faulty G (put_in a b) 14
-      faulty_14 d f = put_again first_below second_below d (found_link G (link a b) S.links q f)
+    module _ {r : Option ℕ} (q : r ≡ number_there G (link a b)) where
+      pub faulty_14 : {e : ℕ} → a ≢ b → r ≡ Some e → Faulty G (put_in a b) 14
+      faulty_14 d f = put_again first_below second_below d (found_link G (link a b) q f).0
 
-      pub faulty_3 : a ≢ b → r ≡ m → max_links ≤ m → Faulty G (put_in a b) 3
-      faulty_3 d f l = put_full first_below second_below d (no_such_link G (link a b) S.links q f) (omega (arith, S.links))
+      pub faulty_3 : a ≢ b → r ≡ None → max_links ≤ m → Faulty G (put_in a b) 3
+      faulty_3 d f l = put_full first_below second_below d (no_such_link G (link a b) q f) (omega (arith, S.links))
 
-      pub faulty_11 : r ≡ m → Faulty G (withdraw a b) 11
-      faulty_11 f = withdraw_none first_below second_below (no_such_link G (link a b) S.links q f)
+      pub faulty_11 : r ≡ None → Faulty G (withdraw a b) 11
+      faulty_11 f = withdraw_none first_below second_below (no_such_link G (link a b) q f)
 
-      pub put_asks : {w : List ℕ} → a ≢ b → r ≡ m → m < max_links → length w ≡ COLUMNS * (m + 1) → PutAsks s m a b w
+      pub put_asks : {w : List ℕ} → a ≢ b → r ≡ None → m < max_links → length w ≡ COLUMNS * (m + 1) → PutAsks s m a b w
       put_asks d f l z = record {
         is_index = S.groups_at_lem.is_index;
         links = S.links;
         first_below = first_below;
         second_below = second_below;
         apart = d;
-        absent = no_such_link G (link a b) S.links q f;
+        absent = no_such_link G (link a b) q f;
         few = l;
         size_is = z;
       }
 
-  module _ {r : ℕ} (q : r ≡ link_number G (link a b)) (f : r ≢ m) where
-    pub found_below : r < m
-    found_below = omega (arith, found_in G (link a b) S.links q f, S.links)
+  module _ {r : Option ℕ} {e : ℕ} (q : r ≡ number_there G (link a b)) (f : r ≡ Some e) where
+    pub found_below : e < m
+    found_below = omega (arith, found_in G (link a b) q f, S.links)
 
-    pub take_asks : {w : List ℕ} → length w ≡ COLUMNS * (m - 1) → TakeAsks s m r a b w
+    pub take_asks : {w : List ℕ} → length w ≡ COLUMNS * (m - 1) → TakeAsks s m e a b w
     take_asks z = record {
       is_index = S.groups_at_lem.is_index;
       links = S.links;
-      there = found_link G (link a b) S.links q f;
-      number = q;
+      there = (found_link G (link a b) q f).0;
+      number = (found_link G (link a b) q f).1;
       inside = found_below;
       size_is = z;
     }

@@ -1,5 +1,5 @@
 -- Over any sequence of changes, refused ones included, the last index written tells what a plain set of pairs would hold. Of calls by their promises. Assumes nothing.
-use Rattle.std.specs.Prelude.{◌≡◌, refl, ◌≢◌, List, ℕ}
+use Rattle.std.specs.Prelude.{Result, ◌≡◌, refl, ◌≢◌, List, ℕ}
 use Rattle.std.proofs.Common.{sym, subst, ◌∙◌}
 use Rattle.truss.specs.Graph.{LinkSet, Graph, member}
 use Rattle.truss.specs.Refusal.{passed}
@@ -9,23 +9,27 @@ use Rattle.truss.specs.Change.{Change, change}
 use Rattle.truss.specs.Changes.{Tells, Changes}
 use Rattle.laws.proofs.Refused.{refusal_keeps}
 use Rattle.laws.proofs.Changes.{passed_tells, all_tell}
+use Rattle.limits.specs.declared.refusal.Refusal.{Refusal}
+use Rattle.limits.specs.Refusals.{checked}
 use Rattle.index.specs.declared.Reply.{Reply as CReply}
-use Rattle.index.specs.Build.{replied}
-use Rattle.changes.specs.Calls.{ChangeGives}
+use Rattle.index.specs.Build.{given_back, replied}
+use Rattle.changes.specs.Calls.{ChangeGives, ChangeReplies}
 
--- a call of `put_in` or `withdraw`, or of one of the two for a C host: it is given the index x, and lent a buffer
-pub record Call (c : Change) (x buffer : List ℕ) (w : Written) : Type 0 where
-  pub result : CReply
-  pub buffer' : List ℕ
-  pub gives : ChangeGives c x buffer result buffer'
-  pub is : w ≡ replied result buffer'
+-- what a call of `put_in` or `withdraw` gives back, or one of the two for a C host: it is given the index x, and lent a buffer
+pub data Call (c : Change) (x buffer : List ℕ) (w : Written) : Type 0 where
+  of_library : (result : Result ℕ Refusal) (buffer' : List ℕ) → ChangeGives c x buffer result buffer' → w ≡ given_back (checked result) buffer' → Call c x buffer w
+  of_host : (reply : CReply) (buffer' : List ℕ) → ChangeReplies c x buffer reply buffer' → w ≡ replied reply buffer' → Call c x buffer w
 
 -- what meets the promise is such a call, and nothing more is asked of it
-pub call : (c : Change) (x buffer : List ℕ) (r : CReply) (buffer' : List ℕ) → ChangeGives c x buffer r buffer' → Call c x buffer (replied r buffer')
-call c x buffer r buffer' g = record { result = r; buffer' = buffer'; gives = g; is = refl }
+pub call : (c : Change) (x buffer : List ℕ) (r : Result ℕ Refusal) (buffer' : List ℕ) → ChangeGives c x buffer r buffer' → Call c x buffer (given_back (checked r) buffer')
+call c x buffer r buffer' g = of_library r buffer' g refl
+
+pub host_call : (c : Change) (x buffer : List ℕ) (r : CReply) (buffer' : List ℕ) → ChangeReplies c x buffer r buffer' → Call c x buffer (replied r buffer')
+host_call c x buffer r buffer' g = of_host r buffer' g refl
 
 call_changes : (c : Change) (x buffer : List ℕ) (w : Written) → Call c x buffer w → w ≡ change c x buffer
-call_changes c x buffer w C = C.is ∙ C.gives
+call_changes c x buffer w (of_library r b g q) = q ∙ g
+call_changes c x buffer w (of_host r b g q) = q ∙ g
 
 -- THE THEOREM: at first any bytes that 7 lets pass. What is called in between does not matter, as long as the bytes lent are those last written.
 pub library_changes : (b x : List ℕ) (G : Graph) (T : LinkSet) → read_index b ≡ passed G → Changes Call b (member G.links) x T → Tells x G.n T

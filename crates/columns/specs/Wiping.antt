@@ -1,9 +1,13 @@
 -- Columns and rows at zero: what `wipe_range`, `wipe`, `wipe_all` and `zero` do. Assumes nothing.
-use Rattle.std.specs.Prelude.{◌≡◌, refl, ◌⊎◌, ◌≢◌, List, [], ◌∷◌, ℕ, zero, suc, ◌+◌, ◌*◌, ◌/◌, ◌%◌, ◌≤◌, ◌<◌, length, get_or, set}
-use Rattle.std.proofs.Common.{sym, ◌∙◌, inl, inr, ap, mod-lt, div-add-mod', div-lt_iff_lt-mul, arith, length-set, ext_get_or, get_or-set_same, get_or-set_other}
-use Rattle.columns.specs.Columns.{cell, store, COLUMNS}
+use Rattle.std.specs.Prelude.{◌≡◌, refl, ◌⊎◌, ◌≢◌, List, ℕ, suc, ◌+◌, ◌-◌, ◌*◌, ◌/◌, ◌%◌, ◌≤◌, ◌<◌, length, get_or, take, drop, replicate}
+use Rattle.std.proofs.Common.{sym, ◌∙◌, inl, inr, mod-lt, div-add-mod', div-lt_iff_lt-mul, arith, length-take, length-drop, suc-mul, ext_get_or}
+use Rattle.std.proofs.Math.Nat.{mul-le-mul_right}
+use Rattle.std.proofs.lemmas.List.{length-replicate, get_or-replicate, get_or_past}
+use Rattle.std.proofs.lemmas.Grind.{common_steps}
+use borrow.Rule.Slice.PartMut.{put_mid}
+use Rattle.columns.specs.Columns.{cell, COLUMNS}
 use Rattle.laws.proofs.Numbers.{same_or_not, less_or_not}
-use Rattle.columns.specs.Laws.{stored, kept_entry, kept_column, length-store}
+use Rattle.columns.specs.Laws.{column, after}
 
 -- ---- the entries from `from` up to e of column c at 0, all others as they were
 
@@ -14,24 +18,56 @@ pub record Wiped (m c from e : ℕ) (w w' : List ℕ) : Type 0 where
   pub after : (y : ℕ) → e ≤ y → cell w' m c y ≡ cell w m c y
   pub others : (d y : ℕ) → d ≢ c → y < m → cell w' m d y ≡ cell w m d y
 
-pub wiped_none : (m c from : ℕ) (w : List ℕ) → Wiped m c from from w w
-wiped_none m c from w = record { length_is = refl; zero = λ y l k. absurd (omega arith); before = λ y l. refl; after = λ y l. refl; others = λ d y n l. refl }
+-- a part of a list is 0, and the rest as it was
+module _ (w : List ℕ) (a e : ℕ) (room : e ≤ length w) (rises : a ≤ e) where
+  filled : List ℕ
+  filled = put_mid a (e - a) w (replicate (e - a) 0)
 
-pub wiped_more : {m c from e : ℕ} {w₀ w w' : List ℕ} → Wiped m c from e w₀ w → c < COLUMNS → from ≤ e → e < m → length w₀ ≡ COLUMNS * m → w' ≡ store w m c e 0 → Wiped m c from (e + 1) w₀ w'
-wiped_more {m} {c} {from} {e} {w₀} {w} {w'} W cl fl el size put = rw put (record {
-  length_is = length-store w m c e 0 ∙ W.length_is;
-  zero = λ y l k. go y l k (same_or_not y e);
-  before = λ y l. kept_entry w m c e y 0 (omega arith) ∙ W.before y l;
-  after = λ y l. kept_entry w m c e y 0 (omega arith) ∙ W.after y (omega arith);
-  others = λ d y n l. kept_column w m c d e y 0 (λ q. n (sym q)) el l ∙ W.others d y n l;
+  filled_zero : (i : ℕ) → a ≤ i → i < e → get_or filled i 0 ≡ 0
+  unfolding filled
+  filled_zero i l h = grind (arith, common_steps)
+
+  filled_before : (i : ℕ) → i < a → get_or filled i 0 ≡ get_or w i 0
+  unfolding filled
+  filled_before i l = grind (arith, common_steps)
+
+  filled_after : (i : ℕ) → e ≤ i → get_or filled i 0 ≡ get_or w i 0
+  unfolding filled
+  filled_after i l = grind (arith, common_steps)
+
+  filled_length : length filled ≡ length w
+  unfolding filled
+  filled_length = grind (arith, common_steps)
+
+  part_length : length (take (e - a) (drop a w)) ≡ e - a
+  part_length = simp (length-take, length-drop) (omega arith)
+
+pub wiped_filled : {m c from until : ℕ} {w ys : List ℕ} → c < COLUMNS → from ≤ until → until ≤ m → length w ≡ COLUMNS * m
+    → ys ≡ replicate (length (take (c * m + until - (c * m + from)) (drop (c * m + from) w))) 0 → Wiped m c from until w (put_mid (c * m + from) (c * m + until - (c * m + from)) w ys)
+unfolding filled cell
+wiped_filled {m} {c} {from} {until} {w} cl rises within size zeroed = rw (zeroed, part_length w a e room up) (record {
+  length_is = filled_length w a e room up;
+  zero = λ y l k. filled_zero w a e room up (c * m + y) (omega (arith, l)) (omega (arith, k));
+  before = λ y l. filled_before w a e room up (c * m + y) (omega (arith, l));
+  after = λ y l. filled_after w a e room up (c * m + y) (omega (arith, l));
+  others = λ d y n l. go d y n l (less_or_not c d);
 })
   where
-    go : (y : ℕ) → from ≤ y → y < e + 1 → (y ≡ e) ⊎ (y ≢ e) → cell (store w m c e 0) m c y ≡ 0
-    go y l k (inl q) = rw q (stored w m c e 0 cl el (W.length_is ∙ size))
-    go y l k (inr q) = kept_entry w m c e y 0 q ∙ W.zero y l (omega (arith, k, q))
+    a : ℕ
+    a = c * m + from
 
-pub wiped_all : {m c from e until : ℕ} {w w' : List ℕ} → e ≡ until → Wiped m c from e w w' → Wiped m c from until w w'
-wiped_all q h = rw q at h
+    e : ℕ
+    e = c * m + until
+
+    up : a ≤ e
+    up = omega arith
+
+    room : e ≤ length w
+    room = omega (arith, size, within, column c m cl)
+
+    go : (d y : ℕ) → d ≢ c → y < m → (c < d) ⊎ (d ≤ c) → get_or (filled w a e room up) (d * m + y) 0 ≡ get_or w (d * m + y) 0
+    go d y n l (inl p) = let wide : suc c * m ≤ d * m = mul-le-mul_right m p in filled_after w a e room up (d * m + y) (omega (arith, wide, suc-mul c m, within))
+    go d y n l (inr p) = let s : d < c = omega (arith, p, n) in filled_before w a e room up (d * m + y) (after m d c y from s l)
 
 -- ---- the first e entries of column c at 0, all other columns as they were
 
@@ -66,9 +102,6 @@ cleaned_more {m} {from} {c} {w₀} {w} {w'} fc C W = record {
     go d y l k h (inl q) = rw q (W.zero y h)
     go d y l k h (inr q) = W.others d y q h ∙ C.zero d y l (omega arith) h
 
-pub cleaned_all : {m from c until : ℕ} {w w' : List ℕ} → c ≡ until → Cleaned m from c w w' → Cleaned m from until w w'
-cleaned_all q h = rw q at h
-
 -- ---- the first n entries of an account-sized row at 0, the others as they were
 
 abbrev pub Zeros : ℕ → List ℕ → Type 0
@@ -79,39 +112,22 @@ pub record Zeroed (n : ℕ) (s s' : List ℕ) : Type 0 where
   pub zero : Zeros n s'
   pub after : (a : ℕ) → n ≤ a → get_or s' a 0 ≡ get_or s a 0
 
-pub zeroed_none : (s : List ℕ) → Zeroed 0 s s
-zeroed_none s = record { length_is = refl; zero = λ a l. absurd (omega arith); after = λ a l. refl }
-
-pub zeroed_more : {n : ℕ} {s₀ s : List ℕ} → Zeroed n s₀ s → n < length s₀ → Zeroed (n + 1) s₀ (set s n 0)
-zeroed_more {n} {s₀} {s} Z l = record {
-  length_is = length-set s n 0 ∙ Z.length_is;
-  zero = λ a k. go a k (same_or_not a n);
-  after = λ a k. get_or-set_other s n a 0 0 (omega arith) ∙ Z.after a (omega arith);
-}
-  where
-    go : (a : ℕ) → a < n + 1 → (a ≡ n) ⊎ (a ≢ n) → get_or (set s n 0) a 0 ≡ 0
-    go a k (inl e) = rw e (get_or-set_same s n 0 0 (omega (arith, l, Z.length_is)))
-    go a k (inr e) = get_or-set_other s n a 0 0 e ∙ Z.zero a (omega arith)
-
-pub zeroed_all : {i n : ℕ} {s s' : List ℕ} → i ≡ n → Zeroed i s s' → Zeroed n s s'
-zeroed_all q z = rw q at z
-
 -- ---- a whole slice at 0
 
 unfoldable pub zeros : ℕ → List ℕ
-zeros zero = []
-zeros (suc k) = 0 ∷ zeros k
+zeros k = replicate k 0
 
 pub zeros-length : (k : ℕ) → length (zeros k) ≡ k
 unfolding zeros
-zeros-length zero = refl
-zeros-length (suc k) = ap suc (zeros-length k)
+zeros-length k = length-replicate k 0
 
 pub zeros_at : (k i : ℕ) → get_or (zeros k) i 0 ≡ 0
 unfolding zeros
-zeros_at zero i = refl
-zeros_at (suc k) zero = refl
-zeros_at (suc k) (suc i) = zeros_at k i
+zeros_at k i = go (less_or_not i k)
+  where
+    go : (i < k) ⊎ (k ≤ i) → ◌≡◌ {A = ℕ} (get_or (replicate k 0) i 0) 0
+    go (inl l) = get_or-replicate k i 0 0 l
+    go (inr l) = get_or_past (replicate k 0) i 0 (omega (arith, l, length-replicate {A = ℕ} k 0))
 
 pub all_zero : {w : List ℕ} {k : ℕ} → length w ≡ k → ((i : ℕ) → i < k → get_or w i 0 ≡ 0) → w ≡ zeros k
 all_zero {w} {k} l h = ext_get_or 0 w (zeros k) (l ∙ sym (zeros-length k)) (λ i p. h i (omega (arith, l, p)) ∙ sym (zeros_at k i))

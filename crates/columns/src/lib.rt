@@ -1,4 +1,5 @@
 // The work space: sixteen columns of m numbers in one lent slice. Entry i of column c stands at c * m + i.
+// The slice and m stay two parameters: of a struct of both each function that writes would have to promise, and each loop to keep, that m is what it was.
 #![tactic(auto)]
 
 ghost use Rattle.std.specs.Prelude.{◌+◌, ◌*◌, ◌<◌, ◌≤◌, ◌≡◌, length, get_or};
@@ -62,6 +63,7 @@ pub const HALF: usize = 65536;
 pub const NO_SUPPORT: usize = 65536;
 
 // Entry i of column c.
+#[tactic(auto, using(crate::specs::Laws::column), unfolding(crate::specs::Columns::cell))]
 pub fn get(w: &[u32], m: usize, c: usize, i: usize) -> usize
     requires c_bound { c < COLUMNS }
     requires i_lt_m { i < m }
@@ -72,6 +74,7 @@ pub fn get(w: &[u32], m: usize, c: usize, i: usize) -> usize
 }
 
 // A store at entry i of column c.
+#[tactic(auto, using(crate::specs::Laws::column), unfolding(crate::specs::Columns::store))]
 pub fn put(w: &mut [u32], m: usize, c: usize, i: usize, x: usize)
     requires c_bound { c < COLUMNS }
     requires i_lt_m { i < m }
@@ -83,6 +86,7 @@ pub fn put(w: &mut [u32], m: usize, c: usize, i: usize, x: usize)
 }
 
 // Entry i of the two columns 1 and 2 seen as one of 2 * m entries.
+#[tactic(auto, unfolding(crate::specs::Columns::entry))]
 pub fn near(w: &[u32], m: usize, i: usize) -> usize
     requires i_bound { i < 2 * m }
     requires w_len { length w.now ≡ COLUMNS * m }
@@ -92,6 +96,7 @@ pub fn near(w: &[u32], m: usize, i: usize) -> usize
 }
 
 // A store there.
+#[tactic(auto, unfolding(crate::specs::Columns::store_entry))]
 pub fn put_near(w: &mut [u32], m: usize, i: usize, x: usize)
     requires i_bound { i < 2 * m }
     requires x_lt_entry_bound { x < entry_bound }
@@ -110,6 +115,7 @@ pub fn of(s: &[u32], i: usize) -> usize
 }
 
 // The entries from .. until of column c at 0.
+#[tactic(auto, using(crate::specs::Wiping::wiped_filled))]
 pub fn wipe_range(w: &mut [u32], m: usize, c: usize, from: usize, until: usize)
     requires w_len { length w.old ≡ COLUMNS * m }
     requires c_bound { c < COLUMNS }
@@ -118,14 +124,11 @@ pub fn wipe_range(w: &mut [u32], m: usize, c: usize, from: usize, until: usize)
     requires m_le_link_bound { m ≤ link_bound }
     ensures { Wiped m c from until w.old w.new }
 {
-    let mut e = from;
-    while e < until {
-        put(w, m, c, e, 0);
-        e += 1;
-    }
+    w[c * m + from..c * m + until].fill(0);
 }
 
 // Column c at 0.
+#[tactic(auto, using(crate::specs::Wiping::wiping_first))]
 pub fn wipe(w: &mut [u32], m: usize, c: usize)
     requires w_len { length w.old ≡ COLUMNS * m }
     requires c_bound { c < COLUMNS }
@@ -135,7 +138,8 @@ pub fn wipe(w: &mut [u32], m: usize, c: usize)
     wipe_range(w, m, c, 0, m);
 }
 
-// The columns from .. until at 0.
+// The columns from .. until at 0. (A loop of one call: a closure in place of the call would have to say again what it does.)
+#[tactic(auto, using(crate::specs::Wiping::cleaned_none, crate::specs::Wiping::cleaned_more))]
 pub fn wipe_all(w: &mut [u32], m: usize, from: usize, until: usize)
     requires w_len { length w.old ≡ COLUMNS * m }
     requires from_le_until { from ≤ until }
@@ -143,10 +147,8 @@ pub fn wipe_all(w: &mut [u32], m: usize, from: usize, until: usize)
     requires m_le_link_bound { m ≤ link_bound }
     ensures { Cleaned m from until w.old w.new }
 {
-    let mut c = from;
-    while c < until {
+    for c in from..until {
         wipe(w, m, c);
-        c += 1;
     }
 }
 
@@ -156,25 +158,19 @@ pub fn zero(s: &mut [u32], n: usize)
     requires n_le_max_accounts { n ≤ max_accounts }
     ensures { Zeroed n s.old s.new }
 {
-    let mut a: usize = 0;
-    while a < n {
-        s[a] = 0;
-        a += 1;
-    }
+    s[..n].fill(0);
 }
 
 // All that is lent at 0.
+#[tactic(auto, unfolding(crate::specs::Wiping::zeros))]
 pub fn clear(s: &mut [u32])
     ensures { s.new ≡ zeros (length s.old) }
 {
-    let mut i: usize = 0;
-    while i < s.len() {
-        s[i] = 0;
-        i += 1;
-    }
+    s.fill(0);
 }
 
 // Room for a work space of the most links.
+#[tactic(auto, unfolding(crate::specs::Wiping::zeros))]
 pub fn room() -> [u32; WORK]
     ensures { result ≡ zeros (COLUMNS * max_links) }
 {
@@ -182,6 +178,7 @@ pub fn room() -> [u32; WORK]
 }
 
 // Room for an entry of each account, and one more.
+#[tactic(auto, unfolding(crate::specs::Wiping::zeros))]
 pub fn account_room() -> [u32; ACCOUNT_ROW]
     ensures { result ≡ zeros (max_accounts + 1) }
 {

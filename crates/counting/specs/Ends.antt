@@ -1,5 +1,5 @@
 -- The links that have an account as an end: those with it as lower account are neighbours, those with it as higher account are in a chain. Assumes nothing.
-use Rattle.std.specs.Prelude.{◌≡◌, refl, ◌⊎◌, ◌≢◌, Bool, true, false, ◌||◌, List, ℕ, ◌+◌, ◌*◌, ◌-◌, ◌≤◌, ◌<◌, eqb, length, set}
+use Rattle.std.specs.Prelude.{◌≡◌, refl, ◌⊎◌, ◌≢◌, Bool, true, false, ◌||◌, Option, Some, None, SomeIff, List, ℕ, ◌+◌, ◌*◌, ◌-◌, ◌≤◌, ◌<◌, eqb, length, set}
 use Rattle.std.proofs.Common.{sym, ap, ◌∙◌, subst, inl, inr, arith, length-set, get_or-set_same, get_or-set_other, eq-eqb, eqb-true}
 use Rattle.truss.specs.Graph.{link_at, ends}
 use Rattle.laws.proofs.Lists.{or_cases}
@@ -16,9 +16,21 @@ use Rattle.counting.specs.Counting.{Round, round_none, round_link, round_then, r
 
 -- ---- chains by higher account
 
+-- a link as the cells of a chain have it: one more, and 0 for none
+abbrev pub pointer : Option ℕ → ℕ
+pointer None = 0
+pointer (Some e) = e + 1
+
+-- a cell read as a pointer
+pub pointed : (o : Option ℕ) {x : ℕ} → SomeIff o (1 ≤ x) (x - 1) → pointer o ≡ x
+pointed None {x} S = go (less_or_not 0 x)
+  where
+    go : (0 < x) ⊎ (x ≤ 0) → 0 ≡ x
+    go (inl l) = absurd (S (omega (arith, l)))
+    go (inr l) = omega (arith, l)
+pointed (Some e) {x} S = omega (arith, S.0, S.1)
+
 pub record ChainAsks (b : List ℕ) (m : ℕ) (w head : List ℕ) : Type 0 where
-  pub is_index : IsIndex b
-  pub links : size (graph_in b) ≡ m
   pub size_is : length w ≡ COLUMNS * m
   pub wide : (graph_in b).n ≤ length head
   pub zero : (a : ℕ) → a < (graph_in b).n → headAt head a ≡ 0
@@ -82,33 +94,36 @@ pub record Walked (b : List ℕ) (m count v q : ℕ) (w₀ w : List ℕ) : Type 
 pub walked_none : {b : List ℕ} {m count v q : ℕ} {w : List ℕ} → ChainAt b m v q w → Walked b m count v q w w
 walked_none C = record { below = C.head.below; here = C.head.here; round = round_none (λ j (a, k, e). C.head.none j a k e) }
 
-module _ {b : List ℕ} {m count v q₀ q : ℕ} {w₀ w : List ℕ} (C : ChainAt b m v q₀ w₀) (W : Walked b m count v q w₀ w) (n : q ≢ 0) where
-  pub walked_in : q - 1 < m
-  walked_in = omega (arith, W.below, n)
+at_v : {b : List ℕ} {m count v : ℕ} {w₀ w : List ℕ} (e : ℕ) → Walked b m count v (e + 1) w₀ w → hi (key_at (graph_in b)) e ≡ v
+at_v {b} e W = let s : e ≡ e + 1 - 1 = omega arith in ap (hi (key_at (graph_in b))) s ∙ W.here (omega arith)
 
-  module _ {p : ℕ} {w' : List ℕ} (L : LinkGives b m count 4 (q - 1) (v + 1) w w') (e : p ≡ cell w' m 1 (q - 1)) where
-    prev : Prev (key_at (graph_in b)) v (q - 1) p
+module _ {b : List ℕ} {m count v q₀ e : ℕ} {w₀ w : List ℕ} (C : ChainAt b m v q₀ w₀) (W : Walked b m count v (e + 1) w₀ w) where
+  pub walked_in : e < m
+  walked_in = omega (arith, W.below)
+
+  module _ {p : ℕ} {w' : List ℕ} (L : LinkGives b m count 4 e (v + 1) w w') (q : p ≡ cell w' m 1 e) where
+    prev : Prev (key_at (graph_in b)) v e p
     prev =
-        let is : p ≡ cell w₀ m 1 (q - 1) = e ∙ L.both.others 1 (q - 1) (omega arith) (omega arith) walked_in ∙ W.round.both.others 1 (q - 1) (omega arith) (omega arith) walked_in in
-        rw (is, ← W.here (omega (arith, n))) (C.nexts (q - 1) walked_in)
+        let is : p ≡ cell w₀ m 1 e = q ∙ L.both.others 1 e (omega arith) (omega arith) walked_in ∙ W.round.both.others 1 e (omega arith) (omega arith) walked_in in
+        rw (is, ← at_v e W) (C.nexts e walked_in)
 
-    pub walked_less : p < q
-    walked_less = omega (arith, prev.below, n)
+    pub walked_less : p < e + 1
+    walked_less = omega (arith, prev.below)
 
     pub walked_more : Walked b m count v p w₀ w'
     walked_more = record { below = omega (arith, prev.below, W.below); here = prev.here; round = round_same to from (round_then W.round (round_link L)) }
       where
-        to : (j : ℕ) → AtHigher b m v q j ⊎ (j ≡ q - 1) → AtHigher b m v p j
+        to : (j : ℕ) → AtHigher b m v (e + 1) j ⊎ (j ≡ e) → AtHigher b m v p j
         to j (inl (a, k, h)) = (omega (arith, a, walked_less), k, h)
-        to j (inr s) = (omega (arith, s, prev.below), omega (arith, s, walked_in), ap (hi (key_at (graph_in b))) s ∙ W.here (omega (arith, n)))
+        to j (inr s) = (omega (arith, s, prev.below), omega (arith, s, walked_in), ap (hi (key_at (graph_in b))) s ∙ at_v e W)
 
-        from : (j : ℕ) → AtHigher b m v p j → AtHigher b m v q j ⊎ (j ≡ q - 1)
-        from j (a, k, h) = go (same_or_not j (q - 1)) (less_or_not j (q - 1))
+        from : (j : ℕ) → AtHigher b m v p j → AtHigher b m v (e + 1) j ⊎ (j ≡ e)
+        from j (a, k, h) = go (same_or_not j e) (less_or_not j e)
           where
-            go : (j ≡ q - 1) ⊎ (j ≢ q - 1) → (j < q - 1) ⊎ (q - 1 ≤ j) → AtHigher b m v q j ⊎ (j ≡ q - 1)
+            go : (j ≡ e) ⊎ (j ≢ e) → (j < e) ⊎ (e ≤ j) → AtHigher b m v (e + 1) j ⊎ (j ≡ e)
             go (inl s) o = inr s
             go (inr s) (inl o) = absurd (prev.none j a o h)
-            go (inr s) (inr o) = inl (omega (arith, s, o, n), k, h)
+            go (inr s) (inr o) = inl (omega (arith, s, o), k, h)
 
 -- ---- neighbours
 

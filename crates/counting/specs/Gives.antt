@@ -1,7 +1,7 @@
 -- What the functions that count ask and give. Assumes nothing.
 use Rattle.std.specs.Prelude.{◌≡◌, ◌⊎◌, ◌≢◌, Bool, List, ℕ, ◌+◌, ◌*◌, ◌≤◌, ◌<◌, length}
 use Rattle.std.proofs.Common.{sym, ap, ◌∙◌, subst, inl, inr, arith}
-use Rattle.truss.specs.Limits.{max_accounts, max_links}
+use Rattle.truss.specs.Limits.{max_accounts}
 use Rattle.truss.specs.Lists.{count as howMany}
 use Rattle.truss.specs.Question.{accounts_held}
 use Rattle.laws.proofs.Numbers.{same_or_not}
@@ -10,30 +10,12 @@ use Rattle.columns.specs.Columns.{cell, COLUMNS}
 use Rattle.columns.specs.Wiping.{Wiping, Cleaned, zeros, zeros_at, zeros-length}
 use Rattle.sorting.specs.Chains.{Higher}
 use Rattle.sorting.specs.State.{at as headAt}
-use Rattle.stored.specs.Rows.{graph_in, key_at, IsIndex, Shape, few, few_links, few_accounts, shape_sized}
-use Rattle.counting.specs.Touching.{UpGiven, Both, both_none, both_then, Closed, Small}
+use Rattle.stored.specs.Rows.{graph_in, key_at, IsIndex, Shape, few_accounts, Sized, shape_sized, sized_few}
+use Rattle.counting.specs.Touching.{Both, both_none, both_then, Closed, Small}
 use Rattle.counting.specs.Counting.{member_of, holds_of, how_few, Rounds, rounds_none, rounds_closed, group_length, Round, round_then, round_few, round_closed, accounts_more}
 use Rattle.counting.specs.Ends.{ChainAsks, Chained, AtHigher, ChainAt, LowerGives, First, first-none, first_more, at_end, all-ends}
 
 -- ---- counting
-
-pub record CountGiven (b : List ℕ) (n m at count : ℕ) (w : List ℕ) : Type 0 where
-  pub shape : Shape b n m at count
-  pub size_is : length w ≡ COLUMNS * m
-
-pub count_few : {b : List ℕ} {n m at count : ℕ} {w : List ℕ} → CountGiven b n m at count w → (count ≤ m) × (m ≤ max_links) × (n ≤ max_accounts)
-count_few A = (
-  omega (arith, few A.shape.groups_at_lem.is_index, A.shape.links, A.shape.groups),
-  omega (arith, few_links A.shape.groups_at_lem.is_index, A.shape.links),
-  omega (arith, few_accounts A.shape.groups_at_lem.is_index, A.shape.accounts),
-)
-
-up_given : {b : List ℕ} {n m at count : ℕ} {w : List ℕ} (c : ℕ) → CountGiven b n m at count w → (3 < c) × (c < COLUMNS) → UpGiven b at m count c
-up_given c A h = record { sized = shape_sized A.shape; counter = h }
-
-pub record LinksAsks (b : List ℕ) (at m count : ℕ) (w : List ℕ) : Type 0 where
-  pub given : UpGiven b at m count 5
-  pub rounds : Rounds m count 5 0 (member_of (graph_in b)) w
 
 pub record LinksGive (b : List ℕ) (m count : ℕ) (w w' : List ℕ) : Type 0 where
   pub both : Both m count 5 w w'
@@ -45,23 +27,20 @@ rounds_small {m} {count} {c} {i} {p} l R h k = omega (arith, R.counts h k, how_f
 -- ---- accounts
 
 -- what the round of account v asks; it may be under way
-pub record RoundAsks (b : List ℕ) (at m count v : ℕ) (w : List ℕ) : Type 0 where
-  pub given : UpGiven b at m count 4
+pub record RoundAsks (b : List ℕ) (m count v : ℕ) (w : List ℕ) : Type 0 where
   pub few_v : v < max_accounts
   pub size_is : length w ≡ COLUMNS * m
   pub counts : (h : ℕ) → h < count → cell w m 4 h ≤ v + 1
   pub closed : Closed b m count (v + 1) w
 
-module _ {b : List ℕ} {at m count v : ℕ} {P : ℕ → Type 0} {w w' : List ℕ} (A : RoundAsks b at m count v w) (R : Round b m count (v + 1) P w w') where
+module _ {b : List ℕ} {m count v : ℕ} {P : ℕ → Type 0} {w w' : List ℕ} (A : RoundAsks b m count v w) (R : Round b m count (v + 1) P w w') where
   pub asked_small : Small m count 4 w'
   asked_small h l = omega (arith, round_few R h l, A.counts h l, A.few_v)
 
-  pub asked_closed : Closed b m count (v + 1) w'
-  asked_closed = round_closed A.given.sized.groups_at_lem.is_index A.given.sized.groups A.closed R
+  pub asked_closed : {at : ℕ} → Sized b at m count → Closed b m count (v + 1) w'
+  asked_closed S = round_closed S.groups_at_lem.is_index S.groups A.closed R
 
-pub record AccountsAsks (b : List ℕ) (at m n count : ℕ) (w head : List ℕ) : Type 0 where
-  pub given : UpGiven b at m count 4
-  pub accounts : (graph_in b).n ≡ n
+pub record AccountsAsks (b : List ℕ) (m n count : ℕ) (w head : List ℕ) : Type 0 where
   pub wide : n ≤ length head
   pub chains : Higher (key_at (graph_in b)) n m (headAt head) (cell w m 1)
   pub rounds : Rounds m count 4 0 (holds_of (graph_in b)) w
@@ -76,19 +55,18 @@ pub record AccountState (b : List ℕ) (m count v i : ℕ) (w₀ w : List ℕ) :
   pub first : First b m v i
   pub rounds : Rounds m count 4 v (holds_of (graph_in b)) w
 
-pub account_none : {b : List ℕ} {at m n count : ℕ} {w head : List ℕ} → AccountsAsks b at m n count w head → AccountState b m count 0 0 w w
+pub account_none : {b : List ℕ} {m n count : ℕ} {w head : List ℕ} → AccountsAsks b m n count w head → AccountState b m count 0 0 w w
 account_none A = record { both = both_none; first = first-none; rounds = A.rounds }
 
-module _ {b : List ℕ} {at m n count v i : ℕ} {w₀ w head : List ℕ} (A : AccountsAsks b at m n count w₀ head) (S : AccountState b m count v i w₀ w) (l : v < n) where
+module _ {b : List ℕ} {n m at count v i : ℕ} {w₀ w head : List ℕ} (X : Shape b n m at count) (A : AccountsAsks b m n count w₀ head) (S : AccountState b m count v i w₀ w) (l : v < n) where
   I : IsIndex b
-  I = A.given.sized.groups_at_lem.is_index
+  I = X.groups_at_lem.is_index
 
   pub account_few : n ≤ max_accounts
-  account_few = omega (arith, few_accounts I, A.accounts)
+  account_few = omega (arith, few_accounts I, X.accounts)
 
-  pub lower_asks : RoundAsks b at m count v w
+  pub lower_asks : RoundAsks b m count v w
   lower_asks = record {
-    given = A.given;
     few_v = omega (arith, l, account_few);
     size_is = S.rounds.size_is;
     counts = λ h k. omega (arith, S.rounds.counts h k, how_few (holds_of (graph_in b) h) v);
@@ -96,13 +74,12 @@ module _ {b : List ℕ} {at m n count v i : ℕ} {w₀ w head : List ℕ} (A : A
   }
 
   module _ {i' : ℕ} {w₁ : List ℕ} (L : LowerGives b m count v i i' w w₁) where
-    pub higher_asks : RoundAsks b at m count v w₁
+    pub higher_asks : RoundAsks b m count v w₁
     higher_asks = record {
-      given = A.given;
       few_v = omega (arith, l, account_few);
       size_is = L.passed.round.both.length_is ∙ S.rounds.size_is;
       counts = λ h k. omega (arith, round_few L.passed.round h k, S.rounds.counts h k, how_few (holds_of (graph_in b) h) v);
-      closed = asked_closed lower_asks L.passed.round;
+      closed = asked_closed lower_asks L.passed.round (shape_sized X);
     }
 
     pub chain_asks : {q : ℕ} → q ≡ headAt head v → ChainAt b m v q w₁
@@ -114,8 +91,8 @@ module _ {b : List ℕ} {at m n count v i : ℕ} {w₀ w head : List ℕ} (A : A
     pub account_more : {w₂ : List ℕ} → Round b m count (v + 1) (AtHigher b m v 0) w₁ w₂ → AccountState b m count (v + 1) i' w₀ w₂
     account_more R = record {
       both = both_then S.both (both_then L.passed.round.both R.both);
-      first = first_more I A.given.sized.links S.first L;
-      rounds = accounts_more A.given.sized.groups (at_end I A.given.sized.links S.first L) (all-ends I A.given.sized.links S.first L) S.rounds (round_then L.passed.round R);
+      first = first_more I X.links S.first L;
+      rounds = accounts_more X.groups (at_end I X.links S.first L) (all-ends I X.links S.first L) S.rounds (round_then L.passed.round R);
     }
 
 -- ---- the whole
@@ -137,51 +114,44 @@ pub record Counted (b : List ℕ) (m count : ℕ) (w w' : List ℕ) : Type 0 whe
   pub zero : (d y : ℕ) → d < 4 → y < m → cell w' m d y ≡ 0
   pub above : (d y : ℕ) → 6 ≤ d → y < m → cell w' m d y ≡ cell w m d y
 
-module _ {b : List ℕ} {n m at count : ℕ} {w : List ℕ} (A : CountGiven b n m at count w) where
-  inside : (h : ℕ) → h < count → h < m
-  inside h l = omega (arith, l, (count_few A).0)
+inside : {b : List ℕ} {n m at count : ℕ} → Shape b n m at count → (h : ℕ) → h < count → h < m
+inside X h l = omega (arith, l, (sized_few (shape_sized X)).0)
 
+module _ {b : List ℕ} {n m at count : ℕ} {w : List ℕ} (X : Shape b n m at count) (sz : length w ≡ COLUMNS * m) where
   pub links_chain : {w₁ head : List ℕ} → Cleaned m 3 5 w w₁ → head ≡ zeros (max_accounts + 1) → ChainAsks b m w₁ head
   links_chain C q = record {
-    is_index = A.shape.groups_at_lem.is_index;
-    links = A.shape.links;
-    size_is = C.length_is ∙ A.size_is;
-    wide = omega (arith, ap length q, zeros-length (max_accounts + 1), few_accounts A.shape.groups_at_lem.is_index);
+    size_is = C.length_is ∙ sz;
+    wide = omega (arith, ap length q, zeros-length (max_accounts + 1), few_accounts X.groups_at_lem.is_index);
     zero = λ a l. ap (λ (z : List ℕ). headAt z a) q ∙ zeros_at (max_accounts + 1) a;
   }
 
-  pub accounts_asks : {w₁ w₂ head : List ℕ} → Cleaned m 3 5 w w₁ → Chained b m m w₁ w₂ head → AccountsAsks b at m n count w₂ head
+  pub accounts_asks : {w₁ w₂ head : List ℕ} → Cleaned m 3 5 w w₁ → Chained b m m w₁ w₂ head → AccountsAsks b m n count w₂ head
   accounts_asks {w₁} {w₂} {head} C D = record {
-    given = up_given 4 A (omega arith, omega arith);
-    accounts = A.shape.accounts;
-    wide = omega (arith, D.wide, A.shape.accounts);
-    chains = subst (λ (x : ℕ). Higher (key_at (graph_in b)) x m (headAt head) (cell w₂ m 1)) A.shape.accounts D.chains;
-    rounds = rounds_none (D.length_is ∙ C.length_is ∙ A.size_is) (λ h l. zero 3 h (omega arith) (omega arith) l) (λ h l. zero 4 h (omega arith) (omega arith) l);
+    wide = omega (arith, D.wide, X.accounts);
+    chains = subst (λ (x : ℕ). Higher (key_at (graph_in b)) x m (headAt head) (cell w₂ m 1)) X.accounts D.chains;
+    rounds = rounds_none (D.length_is ∙ C.length_is ∙ sz) (λ h l. zero 3 h (omega arith) (omega arith) l) (λ h l. zero 4 h (omega arith) (omega arith) l);
   }
     where
       zero : (d h : ℕ) → 3 ≤ d → d < 5 → h < count → cell w₂ m d h ≡ 0
-      zero d h k j l = D.others d h (omega arith) (inside h l) ∙ C.zero d h k j (inside h l)
+      zero d h k j l = D.others d h (omega arith) (inside X h l) ∙ C.zero d h k j (inside X h l)
 
   pub all_held : {w₁ w₂ w₃ w₄ head : List ℕ} → Cleaned m 3 5 w w₁ → Chained b m m w₁ w₂ head → AccountsGive b m n count w₂ w₃ → Cleaned m 0 4 w₃ w₄ → Held b m count w w₄
   all_held C D N Z = record {
-    length_is = Z.length_is ∙ N.rounds.size_is ∙ sym A.size_is;
-    accounts = λ h l. Z.above 4 h (omega arith) (inside h l) ∙ N.rounds.counts h l ∙ ap (howMany (holds_of (graph_in b) h)) (sym A.shape.accounts);
+    length_is = Z.length_is ∙ N.rounds.size_is ∙ sym sz;
+    accounts = λ h l. Z.above 4 h (omega arith) (inside X h l) ∙ N.rounds.counts h l ∙ ap (howMany (holds_of (graph_in b) h)) (sym X.accounts);
     after = λ h l k. Z.above 4 h (omega arith) k ∙ N.both.after 4 h l k ∙ D.others 4 h (omega arith) k ∙ C.zero 4 h (omega arith) (omega arith) k;
     zero = λ d y l k. Z.zero d y (omega arith) l k;
     above = λ d y l k. Z.above d y (omega arith) k ∙ N.both.others d y (omega arith) (omega arith) k ∙ D.others d y (omega arith) k ∙ C.above d y l k;
   }
 
-  pub links_asks : {w₁ w₂ : List ℕ} → Held b m count w w₁ → Wiping m 5 m w₁ w₂ → LinksAsks b at m count w₂
-  links_asks H W = record {
-    given = up_given 5 A (omega arith, omega arith);
-    rounds = rounds_none (W.length_is ∙ H.length_is ∙ A.size_is) (λ h l. W.others 3 h (omega arith) (inside h l) ∙ H.zero 3 h (omega arith) (inside h l)) (λ h l. W.zero h (inside h l));
-  }
+  pub links_asks : {w₁ w₂ : List ℕ} → Held b m count w w₁ → Wiping m 5 m w₁ w₂ → Rounds m count 5 0 (member_of (graph_in b)) w₂
+  links_asks H W = rounds_none (W.length_is ∙ H.length_is ∙ sz) (λ h l. W.others 3 h (omega arith) (inside X h l) ∙ H.zero 3 h (omega arith) (inside X h l)) (λ h l. W.zero h (inside X h l))
 
   pub all-counted : {w₁ w₂ w₃ w₄ : List ℕ} → Held b m count w w₁ → Wiping m 5 m w₁ w₂ → LinksGive b m count w₂ w₃ → Wiping m 3 m w₃ w₄ → Counted b m count w w₄
   all-counted {w₁} {w₂} {w₃} {w₄} H W L Z = record {
-    length_is = Z.length_is ∙ L.rounds.size_is ∙ sym A.size_is;
-    accounts = λ h l. kept 4 h (omega arith) (omega arith) (inside h l) ∙ H.accounts h l;
-    links = λ h l. Z.others 5 h (omega arith) (inside h l) ∙ L.rounds.counts h l ∙ ap (howMany (member_of (graph_in b) h)) (sym A.shape.links) ∙ group_length (graph_in b) h (omega (arith, l, A.shape.groups));
+    length_is = Z.length_is ∙ L.rounds.size_is ∙ sym sz;
+    accounts = λ h l. kept 4 h (omega arith) (omega arith) (inside X h l) ∙ H.accounts h l;
+    links = λ h l. Z.others 5 h (omega arith) (inside X h l) ∙ L.rounds.counts h l ∙ ap (howMany (member_of (graph_in b) h)) (sym X.links) ∙ group_length (graph_in b) h (omega (arith, l, X.groups));
     after = λ h l k. (kept 4 h (omega arith) (omega arith) k ∙ H.after h l k, Z.others 5 h (omega arith) k ∙ L.both.after 5 h l k ∙ W.zero h k);
     zero = λ d y l k. zero d y l k (same_or_not d 3);
     above = λ d y l k. kept d y (omega arith) (omega arith) k ∙ H.above d y (omega arith) k;

@@ -15,11 +15,6 @@ use Rattle.columns.specs.Laws.{upd_store, length-store, kept_column, kept_entry}
 use Rattle.stored.specs.Rows.{graph_in, IsIndex, own_group, parent_of, proper, fits_groups, parent_cases, own_below, Sized, sized_few}
 use Rattle.counting.specs.Paths.{rising, onward, between, step_up, in_leads, leads_in}
 
--- what the walk up asks of index and columns: c is the column that counts
-pub record UpGiven (b : List ℕ) (at m count c : ℕ) : Type 0 where
-  pub sized : Sized b at m count
-  pub counter : (3 < c) × (c < COLUMNS)
-
 -- one more, if the last round was another
 abbrev pub bump : ℕ → ℕ → ℕ → ℕ
 bump last r x = cond (eqb last r) x (x + 1)
@@ -93,6 +88,9 @@ touch_small w m c x r {z} {w₁} l lc u e h =
 
 -- ---- all groups on the way up from g
 
+pub up_there : {b : List ℕ} {at m count x : ℕ} → Sized b at m count → x < count → x ≢ no_group
+up_there A l e = omega (arith, e, l, (sized_few A).0, (sized_few A).1)
+
 pub record UpState (b : List ℕ) (m count c g r x : ℕ) (w₀ w : List ℕ) : Type 0 where
   pub both : Both m count c w₀ w
   pub done : (h : ℕ) → h < count → Leads (index (graph_in b)) g h → h < x → Touched m c r h w₀ w
@@ -100,21 +98,21 @@ pub record UpState (b : List ℕ) (m count c g r x : ℕ) (w₀ w : List ℕ) : 
   pub off : (h : ℕ) → h < count → ¬ (Leads (index (graph_in b)) g h) → Left m c h w₀ w
   pub place : (x ≡ no_group) ⊎ Leads (index (graph_in b)) g x
 
-pub up_none : {b : List ℕ} {at m count c g r : ℕ} {w : List ℕ} → UpGiven b at m count c → g < count → UpState b m count c g r g w w
+pub up_none : {b : List ℕ} {at m count c g r : ℕ} {w : List ℕ} → Sized b at m count → g < count → UpState b m count c g r g w w
 up_none {b} {at} {m} {count} {c} {g} {r} {w} A l = record {
   both = both_none;
   done = λ h lh v k. absurd (omega (arith, k, rising I v));
   todo = λ h lh v k. left_none;
   off = λ h lh n. left_none;
-  place = inr (arrived {g = g} (omega (arith, l, A.sized.groups, group_rows_length (graph_in b) (proper I) (fits_groups I))));
+  place = inr (arrived {g = g} (omega (arith, l, A.groups, group_rows_length (graph_in b) (proper I) (fits_groups I))));
 }
   where
     I : IsIndex b
-    I = A.sized.groups_at_lem.is_index
+    I = A.groups_at_lem.is_index
 
-module _ {b : List ℕ} {at m count c g r x : ℕ} {w₀ w : List ℕ} (A : UpGiven b at m count c) (S : UpState b m count c g r x w₀ w) (n : x ≢ no_group) where
+module _ {b : List ℕ} {at m count c g r x : ℕ} {w₀ w : List ℕ} (A : Sized b at m count) (S : UpState b m count c g r x w₀ w) (n : x ≢ no_group) where
   I : IsIndex b
-  I = A.sized.groups_at_lem.is_index
+  I = A.groups_at_lem.is_index
 
   on_path : Leads (index (graph_in b)) g x
   on_path = go S.place
@@ -131,7 +129,14 @@ module _ {b : List ℕ} {at m count c g r x : ℕ} {w₀ w : List ℕ} (A : UpGi
   lx = ends_in on_path
 
   pub up_in : x < count
-  up_in = omega (arith, lx, A.sized.groups)
+  up_in = omega (arith, lx, A.groups)
+
+  pub up_next : {p : ℕ} → p ≡ parent_of (graph_in b) x → p ≢ no_group → p < count
+  up_next {p} q np = go (parent_cases I x lx)
+    where
+      go : (parent_of (graph_in b) x < group_count (graph_in b)) ⊎ (parent_of (graph_in b) x ≡ no_group) → p < count
+      go (inl l) = omega (arith, q, l, A.groups)
+      go (inr e) = absurd (np (q ∙ e))
 
   -- its counter is as it was
   pub up_count : cell w m c x ≡ cell w₀ m c x
@@ -143,7 +148,7 @@ module _ {b : List ℕ} {at m count c g r x : ℕ} {w₀ w : List ℕ} (A : UpGi
     where
       go : (parent_of (graph_in b) x < group_count (graph_in b)) ⊎ (parent_of (graph_in b) x ≡ no_group) → x < p
       go (inl l) = omega (arith, q, parent_rises (graph_in b) (proper I) (fits_groups I) x lx l)
-      go (inr e) = omega (arith, e, q, up_in, (sized_few A.sized).0, (sized_few A.sized).1)
+      go (inr e) = omega (arith, e, q, up_in, (sized_few A).0, (sized_few A).1)
 
   pub up_more : {p y : ℕ} {w' : List ℕ} → y ≡ cell w m 3 x → y ≢ r → p ≡ parent_of (graph_in b) x → TouchOne m c x r w w' → UpState b m count c g r p w₀ w'
   up_more {p} {y} {w'} qy ny q T = record {
@@ -158,7 +163,7 @@ module _ {b : List ℕ} {at m count c g r x : ℕ} {w₀ w : List ℕ} (A : UpGi
       rises = up_rises q
 
       else : (h : ℕ) → h < count → h ≢ x → Left m c h w w'
-      else h l n = let k : h < m = omega (arith, l, (sized_few A.sized).0) in record { stamp = T.else 3 h k n; counted = T.else c h k n }
+      else h l n = let k : h < m = omega (arith, l, (sized_few A).0) in record { stamp = T.else 3 h k n; counted = T.else c h k n }
 
       left_then : {h : ℕ} → Left m c h w w' → Left m c h w₀ w → Left m c h w₀ w'
       left_then a d = record { stamp = a.stamp ∙ d.stamp; counted = a.counted ∙ d.counted }
@@ -188,15 +193,15 @@ pub record UpGives (b : List ℕ) (m count c g r : ℕ) (w w' : List ℕ) : Type
   pub on : (h : ℕ) → h < count → Leads (index (graph_in b)) g h → Touched m c r h w w'
   pub off : (h : ℕ) → h < count → ¬ (Leads (index (graph_in b)) g h) → Left m c h w w'
 
-pub up_done : {b : List ℕ} {at m count c g r x : ℕ} {w w' : List ℕ} → UpGiven b at m count c → UpState b m count c g r x w w' → x ≡ no_group → UpGives b m count c g r w w'
-up_done A S e = record { both = S.both; on = λ h l v. S.done h l v (omega (arith, e, l, (sized_few A.sized).0, (sized_few A.sized).1)); off = S.off }
+pub up_done : {b : List ℕ} {at m count c g r x : ℕ} {w w' : List ℕ} → Sized b at m count → UpState b m count c g r x w w' → x ≡ no_group → UpGives b m count c g r w w'
+up_done A S e = record { both = S.both; on = λ h l v. S.done h l v (omega (arith, e, l, (sized_few A).0, (sized_few A).1)); off = S.off }
 
 -- so the way up ends at the first group that the round touched already
-pub up_stop : {b : List ℕ} {at m count c g r x y : ℕ} {w₀ w : List ℕ} → UpGiven b at m count c → UpState b m count c g r x w₀ w → x ≢ no_group → Closed b m count r w₀ → y ≡ cell w m 3 x → y ≡ r → UpGives b m count c g r w₀ w
+pub up_stop : {b : List ℕ} {at m count c g r x y : ℕ} {w₀ w : List ℕ} → Sized b at m count → UpState b m count c g r x w₀ w → x ≢ no_group → Closed b m count r w₀ → y ≡ cell w m 3 x → y ≡ r → UpGives b m count c g r w₀ w
 up_stop {b} {at} {m} {count} {c} {g} {r} {x} {y} {w₀} {w} A S n closed q e = record { both = S.both; on = λ h l v. go h l v (less_or_not h x); off = S.off }
   where
     I : IsIndex b
-    I = A.sized.groups_at_lem.is_index
+    I = A.groups_at_lem.is_index
 
     stamped : cell w₀ m 3 x ≡ r
     stamped = sym (S.todo x (up_in A S n) (on_path A S n) (omega arith)).stamp ∙ sym q ∙ e
@@ -215,18 +220,18 @@ pub record LinkGives (b : List ℕ) (m count c i r : ℕ) (w w' : List ℕ) : Ty
   pub on : (h : ℕ) → h < count → In i (stored (graph_in b) h).members → Touched m c r h w w'
   pub off : (h : ℕ) → h < count → ¬ (In i (stored (graph_in b) h).members) → Left m c h w w'
 
-pub link_gives : {b : List ℕ} {at m count c i g r : ℕ} {w w' : List ℕ} → UpGiven b at m count c → i < m → g ≡ own_group (graph_in b) i → UpGives b m count c g r w w' → LinkGives b m count c i r w w'
+pub link_gives : {b : List ℕ} {at m count c i g r : ℕ} {w w' : List ℕ} → Sized b at m count → i < m → g ≡ own_group (graph_in b) i → UpGives b m count c g r w w' → LinkGives b m count c i r w w'
 link_gives {b} {at} {m} {count} {c} {i} {g} A l q U = record {
   both = U.both;
-  on = λ h k v. U.on h k (subst (λ (y : ℕ). Leads (index (graph_in b)) y h) (sym q) (in_leads I i h li (omega (arith, k, A.sized.groups)) v));
+  on = λ h k v. U.on h k (subst (λ (y : ℕ). Leads (index (graph_in b)) y h) (sym q) (in_leads I i h li (omega (arith, k, A.groups)) v));
   off = λ h k nv. U.off h k (λ v. nv (leads_in I i h li (subst (λ (y : ℕ). Leads (index (graph_in b)) y h) q v)));
 }
   where
     I : IsIndex b
-    I = A.sized.groups_at_lem.is_index
+    I = A.groups_at_lem.is_index
 
     li : i < size (graph_in b)
-    li = omega (arith, l, A.sized.links)
+    li = omega (arith, l, A.links)
 
 -- ---- what the functions ask
 
@@ -234,5 +239,5 @@ link_gives {b} {at} {m} {count} {c} {i} {g} A l q U = record {
 abbrev pub Small : ℕ → ℕ → ℕ → List ℕ → Type 0
 Small m count c w = (h : ℕ) → h < count → cell w m c h < 65535
 
-pub own-from : {b : List ℕ} {at m count c i g : ℕ} → UpGiven b at m count c → i < m → g ≡ own_group (graph_in b) i → g < count
-own-from {b} {at} {m} {count} {c} {i} {g} A l q = omega (arith, q, own_below A.sized.groups_at_lem.is_index i (omega (arith, l, A.sized.links)), A.sized.groups)
+pub own-from : {b : List ℕ} {at m count i g : ℕ} → Sized b at m count → i < m → g ≡ own_group (graph_in b) i → g < count
+own-from {i = i} A l q = omega (arith, q, own_below A.groups_at_lem.is_index i (omega (arith, l, A.links)), A.groups)

@@ -1,22 +1,43 @@
 -- The first fault of a day, as a number: 0 if there is none. Assumes nothing.
-use Rattle.std.specs.Prelude.{◌≡◌, ◌⊎◌, ◌≢◌, Bool, true, false, cond, ◌||◌, ℕ, zero, suc, ◌+◌, ◌*◌, ◌/◌, ◌≤◌, ◌<◌, eqb, leb, length, get_or, drop}
+use Rattle.std.specs.Prelude.{Result, Ok, Err, IsErrAnd, ◌≡◌, ◌⊎◌, ◌≢◌, Bool, true, false, cond, ◌||◌, ℕ, zero, suc, ◌+◌, ◌*◌, ◌/◌, ◌≤◌, ◌<◌, eqb, leb, length, get_or, drop}
 use Rattle.std.proofs.Math.Path.{refl}
 use Rattle.std.proofs.Common.{sym, ap, ◌∙◌, inr, add-one, arith}
 use Rattle.std.proofs.Math.Logic.{inl}
+use Rattle.std.proofs.lemmas.Result.{err_from_is_err_and}
 use mathlib.Core.List.{List, [], ◌∷◌}
 use Rattle.std.proofs.Math.Dec.{ltb}
 use Rattle.std.proofs.Math.Seq.{drop-cons, drop-length}
-use borrow.Author.Tests.{eq-eqb, ne_eqb, lt-ltb, le-ltb, le-leb, lt-leb, ltb-false, leb-false}
+use borrow.Author.Tests.{eq-eqb, ne_eqb, lt-ltb, le-ltb, ltb-false, leb-false}
 use Rattle.truss.specs.Limits.{max_records, min_stake, max_stake, max_limit, record_length}
 use Rattle.truss.specs.Graph.{Graph}
 use Rattle.truss.specs.Refusal.{passed, refuse}
 use Rattle.truss.specs.Question.{bad_level}
-use Rattle.truss.specs.Record.{byte_at}
-use Rattle.truss.specs.Bets.{DayRecord, bet, new_limit, wide_at, record_at, records_in, Day, day_of, check_records, check_day}
+use Rattle.truss.specs.Bets.{DayRecord, bet, new_limit, record_at, records_in, Day, day_of, check_records, check_day}
 use Rattle.truss.specs.Trial.{no_record}
 use Rattle.laws.proofs.Lists.{test}
 use Rattle.laws.proofs.Numbers.{same_or_not}
-use Rattle.day.specs.Records.{records-length, record_here, bet_here, limit_here}
+use Rattle.limits.specs.declared.refusal.Refusal.{Refusal}
+use Rattle.limits.specs.Refusals.{number_of}
+use Rattle.index.specs.Answered.{number_not_0}
+use Rattle.day.specs.Records.{records-length, record_here}
+
+-- what the code's checks give: the number of the fault, 0 if there is none
+unfoldable pub fault_number : Result (Unit {0}) Refusal → ℕ
+fault_number (Ok x) = 0
+fault_number (Err e) = number_of e
+
+-- the answer, read; and what `?` hands on
+pub fault_ok : {r : Result (Unit {0}) Refusal} {x : Unit {0}} {f : ℕ} → fault_number r ≡ f → r ≡ Ok x → 0 ≡ f
+unfolding fault_number
+fault_ok q e = sym (ap fault_number e) ∙ q
+
+pub fault_err : {r : Result (Unit {0}) Refusal} {e : Refusal} {f : ℕ} → fault_number r ≡ f → r ≡ Err e → number_of e ≡ f
+unfolding fault_number
+fault_err q e = sym (ap fault_number e) ∙ q
+
+pub fault_handed : (r : Result (Unit {0}) Refusal) (e : Refusal) → IsErrAnd r (λ x. x ≡ e) → fault_number r ≡ number_of e
+unfolding fault_number
+fault_handed r e h = let p = err_from_is_err_and r h in ap fault_number p.1 ∙ ap number_of p.2
 
 unfoldable pub record_fault : ℕ → DayRecord → ℕ
 record_fault n (bet a s) = cond (leb n a) 9 (cond (ltb s min_stake || ltb max_stake s) 15 0)
@@ -33,31 +54,14 @@ day_fault n k opening rs = cond (bad_level k) 10 (cond (ltb max_records (length 
 
 -- ---- one record
 
-module _ (n : ℕ) (s : List ℕ) (at : ℕ) {b : Bool} (q : b ≡ eqb (byte_at s at) 0) {x : ℕ} (e : x ≡ wide_at s (at + 5)) where
-  pub limit_fault : b ≡ false → max_limit < x → 15 ≡ record_fault n (record_at s at)
-  unfolding record_fault
-  limit_fault f l = rw (limit_here s at q f, ← e, lt-ltb max_limit x l) refl
-
-  pub limit_sound : b ≡ false → x ≤ max_limit → 0 ≡ record_fault n (record_at s at)
-  unfolding record_fault
-  limit_sound f l = rw (limit_here s at q f, ← e, le-ltb max_limit x l) refl
-
-  module _ (t : b ≡ true) {a : ℕ} (d : a ≡ wide_at s (at + 1)) where
-    pub account_fault : n ≤ a → 9 ≡ record_fault n (record_at s at)
-    unfolding record_fault
-    account_fault l = rw (bet_here s at q t, ← d, le-leb n a l) refl
-
-    pub stake_low : a < n → x < min_stake → 15 ≡ record_fault n (record_at s at)
-    unfolding record_fault
-    stake_low l h = rw (bet_here s at q t, ← d, ← e, lt-leb n a l, lt-ltb x min_stake h) refl
-
-    pub stake_high : a < n → min_stake ≤ x → max_stake < x → 15 ≡ record_fault n (record_at s at)
-    unfolding record_fault
-    stake_high l h k = rw (bet_here s at q t, ← d, ← e, lt-leb n a l, le-ltb x min_stake h, lt-ltb max_stake x k) refl
-
-    pub bet_sound : a < n → min_stake ≤ x → x ≤ max_stake → 0 ≡ record_fault n (record_at s at)
-    unfolding record_fault
-    bet_sound l h k = rw (bet_here s at q t, ← d, ← e, lt-leb n a l, le-ltb x min_stake h, le-ltb max_stake x k) refl
+-- a stake out of range
+pub stake_out : (x : ℕ) → (min_stake ≤ x → x ≤ max_stake → ⊥) → (ltb x min_stake || ltb max_stake x) ≡ true
+stake_out x h = go (test (ltb x min_stake)) (test (ltb max_stake x))
+  where
+    go : (ltb x min_stake ≡ true) ⊎ (ltb x min_stake ≡ false) → (ltb max_stake x ≡ true) ⊎ (ltb max_stake x ≡ false) → (ltb x min_stake || ltb max_stake x) ≡ true
+    go (inl t) u = rw t refl
+    go (inr t) (inl u) = rw (t, u) refl
+    go (inr t) (inr u) = absurd (h (ltb-false x min_stake t) (ltb-false max_stake x u))
 
 -- ---- the loop over a row
 
@@ -67,11 +71,11 @@ module _ (n : ℕ) (s : List ℕ) (i : ℕ) (l : i < length s / record_length) w
   unfolding first_fault
   from_here = rw (add-one, drop-cons (records_in s) i no_record (omega (arith, records-length s)), record_here s i l) refl
 
-  pub fault_next : {f : ℕ} → f ≡ record_fault n (record_at s (i * record_length)) → f ≡ 0 → first_fault n (drop (i + 1) (records_in s)) ≡ first_fault n (drop i (records_in s))
-  fault_next q z = sym (from_here ∙ rw (eq-eqb (record_fault n (record_at s (i * record_length))) 0 (sym q ∙ z)) refl)
+  pub fault_next : 0 ≡ record_fault n (record_at s (i * record_length)) → first_fault n (drop (i + 1) (records_in s)) ≡ first_fault n (drop i (records_in s))
+  fault_next q = sym (from_here ∙ rw (eq-eqb (record_fault n (record_at s (i * record_length))) 0 (sym q)) refl)
 
-  pub fault_found : {f : ℕ} → f ≡ record_fault n (record_at s (i * record_length)) → f ≢ 0 → f ≡ first_fault n (drop i (records_in s))
-  fault_found q z = q ∙ sym (from_here ∙ rw (ne_eqb (record_fault n (record_at s (i * record_length))) 0 (λ e. z (q ∙ e))) refl)
+  pub fault_found : (e : Refusal) → number_of e ≡ record_fault n (record_at s (i * record_length)) → number_of e ≡ first_fault n (drop i (records_in s))
+  fault_found e q = q ∙ sym (from_here ∙ rw (ne_eqb (record_fault n (record_at s (i * record_length))) 0 (λ z. number_not_0 e (q ∙ z))) refl)
 
 pub fault_none : (n : ℕ) (s : List ℕ) {i : ℕ} → length s / record_length ≡ i → 0 ≡ first_fault n (drop i (records_in s))
 unfolding first_fault

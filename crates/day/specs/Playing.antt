@@ -1,6 +1,7 @@
 -- A day played, record by record: what the limit and the sums are after some records. Assumes nothing.
 use Rattle.std.specs.Prelude.{◌≡◌, refl, ◌⊎◌, ◌≢◌, Bool, true, false, cond, ◌&&◌, List, ℕ, ◌+◌, ◌*◌, ◌/◌, ◌≤◌, ◌<◌, eqb, leb, length, get_or, take, set}
 use Rattle.std.proofs.Common.{sym, ap, ◌∙◌, subst, inl, inr, arith, length-set, get_or-set_same, get_or-set_other, take_all, eq-eqb, ne_eqb, le-leb}
+use Rattle.std.specs.Int.{from_bool}
 use mathlib.Core.List.{Memᴰ as In}
 use Rattle.std.proofs.lemmas.Bool.{lt-leb}
 use Rattle.truss.specs.Limits.{max_accounts, max_records, max_links, record_length}
@@ -261,11 +262,14 @@ module _ {G : Graph} {k n groups m opening count : ℕ} {records w₀ start end 
             ∙ byte_full G k opening (take i rs) (take i ds) a s (stored G (entry w m j)) (held_in j p r) (R.held j p r)
             (omega (arith, over, S.sums (entry w m j) (R.below j p r) (R.level j p r), S.limit_is))
 
-        pub standing_held : {byte : ℕ} {w' tk' : List ℕ} → HeldGives m (get_or start a 0) (get_or end a 0) s limit byte w w' → tk' ≡ set tk i byte → Standing (i + 1) limit w' own tk'
-        standing_held {byte} {w'} {tk'} (takes b room C) u =
+        pub standing_held : {taken : Bool} {byte : ℕ} {w' tk' : List ℕ} → HeldGives m (get_or start a 0) (get_or end a 0) s limit taken w w' → byte ≡ from_bool taken → tk' ≡ set tk i byte → Standing (i + 1) limit w' own tk'
+        standing_held {taken} {byte} {w'} {tk'} (takes t room C) z u =
             let one = byte_one room in
             next (b ∙ sym one) C.length_is refl sums (λ c lc h. owns c lc h) (λ c d. refl) outside C.others C.entries u
           where
+            b : byte ≡ 1
+            b = z ∙ ap from_bool t
+
             -- what is no group at k is in no row
             outside : (g : ℕ) → g < m → (groups ≤ g) ⊎ (is_group_at G k (stored G g) ≡ false) → cell w' m SUM g ≡ cell w m SUM g
             outside g lg (inl d) = C.off g (λ j p r e. omega (arith, e, d, R.below j p r))
@@ -282,9 +286,12 @@ module _ {G : Graph} {k n groups m opening count : ℕ} {records w₀ start end 
                     let (j, p, r, e) = R.whole g lg t h in
                     rw (h, ← e) (C.on j p r)
                 by (inr h) = rw h (C.off g (λ j p r e. true_not_false (R.held j p r) (rw e h)) ∙ omega arith)
-        standing_held {byte} {w'} {tk'} (fills b j p r over e) u =
+        standing_held {taken} {byte} {w'} {tk'} (fills f j p r over e) z u =
             rw e (next (b ∙ sym (byte_zero j p r over)) refl refl (λ g lg t. nothing (cell w m SUM g) (holds G (stored G g) a)) (λ c lc h. nothing (get_or own c 0) (eqb c a)) (λ c d. refl) (λ g lg d. refl) (λ c y d ly. refl) (λ x lx. refl) u)
           where
+            b : byte ≡ 0
+            b = z ∙ ap from_bool f
+
             nothing : (x : ℕ) (t : Bool) → x ≡ x + cond (eqb byte 1 && t) s 0
             nothing x t = rw (ne_eqb byte 1 (λ z. omega (arith, z, b))) (omega arith)
 
@@ -341,11 +348,12 @@ module _ {G : Graph} {k n groups m opening count : ℕ} {records w₀ start end 
             nothing : (x : ℕ) (t : Bool) → x ≡ x + cond (eqb byte 1 && t) s 0
             nothing x t = rw (ne_eqb byte 1 (λ z. omega (arith, z, b))) (omega arith)
 
-    pub standing_more : {byte limit' : ℕ} {w' own' tk' : List ℕ} → TurnGives m limit byte limit' records i w w' start end own own' → tk' ≡ set tk i byte → Standing (i + 1) limit' w' own' tk'
-    standing_more (is_limit q b e small ew eo) u = rw (e, ew, eo) (standing_limit q small b u)
-    standing_more (is_bet q e (held some H eo)) u = rw (e, eo) (standing_held q some H u)
-    standing_more (is_bet q e (alone z b room eo ew)) u = rw (e, ew) (standing_alone q z b room eo u)
-    standing_more (is_bet q e (alone_full z b over eo ew)) u = rw (e, ew, eo) (standing_alone_full q z b over u)
+    -- the byte of what is taken is 1, of what is not 0
+    pub standing_more : {taken : Bool} {byte limit' : ℕ} {w' own' tk' : List ℕ} → TurnGives m limit taken limit' records i w w' start end own own' → byte ≡ from_bool taken → tk' ≡ set tk i byte → Standing (i + 1) limit' w' own' tk'
+    standing_more (is_limit q t e small ew eo) b u = rw (e, ew, eo) (standing_limit q small (b ∙ ap from_bool t) u)
+    standing_more (is_bet q e (held some H eo)) b u = rw (e, eo) (standing_held q some H b u)
+    standing_more (is_bet q e (alone z t room eo ew)) b u = rw (e, ew) (standing_alone q z (b ∙ ap from_bool t) room eo u)
+    standing_more (is_bet q e (alone_full z t over eo ew)) b u = rw (e, ew, eo) (standing_alone_full q z (b ∙ ap from_bool t) over u)
 
   pub standing_all : {i limit : ℕ} {w own tk : List ℕ} → i ≡ count → Standing i limit w own tk → Played G k n groups m opening limit records w₀ w own₀ own taken₀ tk
   standing_all {i} {limit} {w} {own} {tk} q S = record {

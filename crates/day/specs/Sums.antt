@@ -97,19 +97,19 @@ module _ {m from to stake : ℕ} {w₀ : List ℕ} (A : ChargeAsks m from to sta
 
 -- ---- a bet of an account in groups
 
-pub data HeldGives (m from to stake limit r : ℕ) (w w' : List ℕ) : Type 0 where
-  takes : r ≡ 1 → ((j : ℕ) → from ≤ j → j < to → sum_of w m j + stake ≤ limit) → Charged m from to stake w w' → HeldGives m from to stake limit r w w'
-  fills : r ≡ 0 → (j : ℕ) → from ≤ j → j < to → limit < sum_of w m j + stake → w' ≡ w → HeldGives m from to stake limit r w w'
+pub data HeldGives (m from to stake limit : ℕ) (r : Bool) (w w' : List ℕ) : Type 0 where
+  takes : r ≡ true → ((j : ℕ) → from ≤ j → j < to → sum_of w m j + stake ≤ limit) → Charged m from to stake w w' → HeldGives m from to stake limit r w w'
+  fills : r ≡ false → (j : ℕ) → from ≤ j → j < to → limit < sum_of w m j + stake → w' ≡ w → HeldGives m from to stake limit r w w'
 
 pub held_room : {m from to stake limit : ℕ} {t : Bool} {w : List ℕ} → RoomGives m from to stake limit t w → t ≡ true → (j : ℕ) → from ≤ j → j < to → sum_of w m j + stake ≤ limit
 held_room (room q h) t = h
 held_room (full q j l k h) t = absurd (Rattle.laws.proofs.Lists.true_not_false t q)
 
-pub held_full : {m from to stake limit r : ℕ} {t : Bool} {w : List ℕ} → RoomGives m from to stake limit t w → t ≡ false → r ≡ 0 → HeldGives m from to stake limit r w w
+pub held_full : {m from to stake limit : ℕ} {t r : Bool} {w : List ℕ} → RoomGives m from to stake limit t w → t ≡ false → r ≡ false → HeldGives m from to stake limit r w w
 held_full (room q h) t z = absurd (Rattle.laws.proofs.Lists.true_not_false q t)
 held_full (full q j l k h) t z = fills z j l k h refl
 
-pub held_length : {m from to stake limit r : ℕ} {w w' : List ℕ} → HeldGives m from to stake limit r w w' → length w' ≡ length w
+pub held_length : {m from to stake limit : ℕ} {r : Bool} {w w' : List ℕ} → HeldGives m from to stake limit r w w' → length w' ≡ length w
 held_length (takes q h C) = C.length_is
 held_length (fills q j l k h e) = ap length e
 
@@ -124,25 +124,25 @@ pub record BetAsks (m a stake limit : ℕ) (w start end own : List ℕ) : Type 0
   pub small : stake < entry_bound
   pub limited : limit < entry_bound
 
-pub data BetGives (m a stake limit r : ℕ) (w w' start end own own' : List ℕ) : Type 0 where
+pub data BetGives (m a stake limit : ℕ) (r : Bool) (w w' start end own own' : List ℕ) : Type 0 where
   held : get_or start a 0 ≢ get_or end a 0 → HeldGives m (get_or start a 0) (get_or end a 0) stake limit r w w' → own' ≡ own → BetGives m a stake limit r w w' start end own own'
-  alone : get_or start a 0 ≡ get_or end a 0 → r ≡ 1 → get_or own a 0 + stake ≤ limit → own' ≡ set own a (get_or own a 0 + stake) → w' ≡ w → BetGives m a stake limit r w w' start end own own'
-  alone_full : get_or start a 0 ≡ get_or end a 0 → r ≡ 0 → limit < get_or own a 0 + stake → own' ≡ own → w' ≡ w → BetGives m a stake limit r w w' start end own own'
+  alone : get_or start a 0 ≡ get_or end a 0 → r ≡ true → get_or own a 0 + stake ≤ limit → own' ≡ set own a (get_or own a 0 + stake) → w' ≡ w → BetGives m a stake limit r w w' start end own own'
+  alone_full : get_or start a 0 ≡ get_or end a 0 → r ≡ false → limit < get_or own a 0 + stake → own' ≡ own → w' ≡ w → BetGives m a stake limit r w w' start end own own'
 
 module _ {m a stake limit from to : ℕ} {w start end own : List ℕ} (q : from ≡ get_or start a 0) (e : to ≡ get_or end a 0) where
   pub bet_row : BetAsks m a stake limit w start end own → RowSafe m from to w
   bet_row A = rw (q, e) A.safe
 
-  pub bet_in_groups : {r : ℕ} {w' : List ℕ} → from ≢ to → HeldGives m from to stake limit r w w' → BetGives m a stake limit r w w' start end own own
+  pub bet_in_groups : {r : Bool} {w' : List ℕ} → from ≢ to → HeldGives m from to stake limit r w w' → BetGives m a stake limit r w w' start end own own
   bet_in_groups n H = held (λ x. n (q ∙ x ∙ sym e)) (rw (← q, ← e) H) refl
 
-  pub bet_alone : {sum r : ℕ} {own' : List ℕ} → from ≡ to → sum ≡ get_or own a 0 → r ≡ 1 → sum + stake ≤ limit → own' ≡ set own a (sum + stake) → BetGives m a stake limit r w w start end own own'
+  pub bet_alone : {sum : ℕ} {r : Bool} {own' : List ℕ} → from ≡ to → sum ≡ get_or own a 0 → r ≡ true → sum + stake ≤ limit → own' ≡ set own a (sum + stake) → BetGives m a stake limit r w w start end own own'
   bet_alone z s r h u = alone (sym q ∙ z ∙ e) r (rw s at h) (rw s at u) refl
 
-  pub bet_alone_full : {sum r : ℕ} → from ≡ to → sum ≡ get_or own a 0 → r ≡ 0 → limit < sum + stake → BetGives m a stake limit r w w start end own own
+  pub bet_alone_full : {sum : ℕ} {r : Bool} → from ≡ to → sum ≡ get_or own a 0 → r ≡ false → limit < sum + stake → BetGives m a stake limit r w w start end own own
   bet_alone_full z s r h = alone_full (sym q ∙ z ∙ e) r (rw s at h) refl refl
 
-pub bet_length : {m a stake limit r : ℕ} {w w' start end own own' : List ℕ} → BetGives m a stake limit r w w' start end own own' → (length w' ≡ length w) × (length own' ≡ length own)
+pub bet_length : {m a stake limit : ℕ} {r : Bool} {w w' start end own own' : List ℕ} → BetGives m a stake limit r w w' start end own own' → (length w' ≡ length w) × (length own' ≡ length own)
 bet_length (held n H e) = (held_length H, ap length e)
 bet_length {a = a} {stake = stake} {own = own} (alone z r h e u) = (ap length u, ap length e ∙ length-set own a (get_or own a 0 + stake))
 bet_length (alone_full z r h e u) = (ap length u, ap length e)
@@ -155,9 +155,9 @@ pub record TurnAsks (m limit : ℕ) (records : List ℕ) (i : ℕ) (w start end 
   pub placed : (a s : ℕ) → record_at records (i * record_length) ≡ bet a s
       → RowSafe m (get_or start a 0) (get_or end a 0) w × (a < length start) × (a < length end) × (a < length own) × (a < max_accounts)
 
-pub data TurnGives (m limit byte limit' : ℕ) (records : List ℕ) (i : ℕ) (w w' start end own own' : List ℕ) : Type 0 where
-  is_limit : {x : ℕ} → record_at records (i * record_length) ≡ new_limit x → byte ≡ 1 → limit' ≡ x → x < entry_bound → w' ≡ w → own' ≡ own → TurnGives m limit byte limit' records i w w' start end own own'
-  is_bet : {a s : ℕ} → record_at records (i * record_length) ≡ bet a s → limit' ≡ limit → BetGives m a s limit byte w w' start end own own' → TurnGives m limit byte limit' records i w w' start end own own'
+pub data TurnGives (m limit : ℕ) (taken : Bool) (limit' : ℕ) (records : List ℕ) (i : ℕ) (w w' start end own own' : List ℕ) : Type 0 where
+  is_limit : {x : ℕ} → record_at records (i * record_length) ≡ new_limit x → taken ≡ true → limit' ≡ x → x < entry_bound → w' ≡ w → own' ≡ own → TurnGives m limit taken limit' records i w w' start end own own'
+  is_bet : {a s : ℕ} → record_at records (i * record_length) ≡ bet a s → limit' ≡ limit → BetGives m a s limit taken w w' start end own own' → TurnGives m limit taken limit' records i w w' start end own own'
 
 pub turn_asks : {m limit i a s : ℕ} {records w start end own : List ℕ} → TurnAsks m limit records i w start end own → record_at records (i * record_length) ≡ bet a s → s < entry_bound
     → BetAsks m a s limit w start end own
@@ -165,6 +165,6 @@ turn_asks {a = a} {s = s} A q small =
     let p = A.placed a s q in
     record { safe = p.0; starts = p.1; ends = p.2; owns = p.3; few = p.4; small = small; limited = A.limited }
 
-pub turn_length : {m limit byte limit' i : ℕ} {records w w' start end own own' : List ℕ} → TurnGives m limit byte limit' records i w w' start end own own' → (length w' ≡ length w) × (length own' ≡ length own)
+pub turn_length : {m limit limit' i : ℕ} {taken : Bool} {records w w' start end own own' : List ℕ} → TurnGives m limit taken limit' records i w w' start end own own' → (length w' ≡ length w) × (length own' ≡ length own)
 turn_length (is_limit q b e small u v) = (ap length u, ap length v)
 turn_length (is_bet q e B) = bet_length B

@@ -5,7 +5,7 @@ ghost use Rattle.day.specs.Records.{InRow};
 ghost use Rattle.day.specs.Sums.{BetAsks, BetGives, Charged, ChargeAsks, HeldGives, RoomGives, RowSafe, TurnAsks, TurnGives};
 ghost use Rattle.day.specs.Playing.{PlayGiven, PlayGives};
 
-use crate::record::{account, amount, is_bet};
+use crate::record::{Record, record_at};
 use columns::{get, near, of, put};
 
 // Of each group: the stakes taken from the accounts that it holds.
@@ -17,14 +17,12 @@ fn has_room(w: &[u32], m: usize, from: usize, to: usize, stake: usize, limit: us
     requires stake_lt_entry_bound { stake < entry_bound }
     ensures { RoomGives m from to stake limit result w.now }
 {
-    let mut j = from;
-    while j < to {
+    for j in from..to {
         let g = near(w, m, j);
         let sum = get(w, m, SUM, g);
         if limit < sum + stake {
             return false;
         }
-        j += 1;
     }
     true
 }
@@ -34,30 +32,28 @@ fn charge(w: &mut [u32], m: usize, from: usize, to: usize, stake: usize)
     requires { ChargeAsks m from to stake w.old }
     ensures { Charged m from to stake w.old w.new }
 {
-    let mut j = from;
-    while j < to {
+    for j in from..to {
         let g = near(w, m, j);
         let sum = get(w, m, SUM, g);
         put(w, m, SUM, g, sum + stake);
-        j += 1;
     }
 }
 
-// A bet of an account that is in groups: 1 if it is taken, else 0.
-fn bet_held(w: &mut [u32], m: usize, from: usize, to: usize, stake: usize, limit: usize) -> u8
+// A bet of an account that is in groups; gives whether it is taken.
+fn bet_held(w: &mut [u32], m: usize, from: usize, to: usize, stake: usize, limit: usize) -> bool
     requires row_safe { RowSafe m from to w.old }
     requires stake_lt_entry_bound { stake < entry_bound }
     requires limit_lt_entry_bound { limit < entry_bound }
     ensures { HeldGives m from to stake limit result w.old w.new }
 {
     if !has_room(w, m, from, to, stake, limit) {
-        return 0;
+        return false;
     }
     charge(w, m, from, to, stake);
-    1
+    true
 }
 
-// A bet of account a.
+// A bet of account a; gives whether it is taken.
 fn take_bet(
     w: &mut [u32],
     m: usize,
@@ -67,7 +63,7 @@ fn take_bet(
     a: usize,
     stake: usize,
     limit: usize,
-) -> u8
+) -> bool
     requires { BetAsks m a stake limit w.old start.now end.now own.old }
     ensures { BetGives m a stake limit result w.old w.new start.now end.now own.old own.new }
 {
@@ -78,16 +74,16 @@ fn take_bet(
     }
     let sum = of(own, a);
     if limit < sum + stake {
-        return 0;
+        return false;
     }
     own[a] = (sum + stake) as u32;
-    1
+    true
 }
 
-// What a record comes to: its byte, and the limit after it.
+// What a record comes to: whether it is taken, as a new limit always is, and the limit after it.
 #[derive(Clone, Copy)]
 struct After {
-    byte: u8,
+    taken: bool,
     limit: usize,
 }
 
@@ -104,15 +100,27 @@ fn turn(
 ) -> After
     requires in_row { InRow records.now i }
     requires turn_asks { TurnAsks m limit records.now i w.old start.now end.now own.old }
-    ensures { TurnGives m limit result.byte result.limit records.now i w.old w.new start.now end.now own.old own.new }
+    ensures { TurnGives m limit result.taken result.limit records.now i w.old w.new start.now end.now own.old own.new }
 {
-    let x = amount(records, i);
-    if !is_bet(records, i) {
-        return After { byte: 1, limit: x };
+    match record_at(records, i) {
+        Record::Bet { account, stake } => {
+            let taken = take_bet(
+                w,
+                m,
+                start,
+                end,
+                own,
+                account as usize,
+                stake as usize,
+                limit,
+            );
+            After { taken, limit }
+        }
+        Record::Limit(limit) => After {
+            taken: true,
+            limit: limit as usize,
+        },
     }
-    let a = account(records, i);
-    let byte = take_bet(w, m, start, end, own, a, x, limit);
-    After { byte, limit }
 }
 
 // So many records, from the opening limit on: their bytes at the front of `taken`, and the last limit.
@@ -131,12 +139,10 @@ pub fn play(
     ensures { PlayGives m opening count result records.now w.old w.new start.now end.now own.old own.new taken.old taken.new }
 {
     let mut limit = opening;
-    let mut i: usize = 0;
-    while i < count {
-        let t = turn(records, i, w, m, start, end, own, limit);
-        taken[i] = t.byte;
-        limit = t.limit;
-        i += 1;
+    for i in 0..count {
+        let after = turn(records, i, w, m, start, end, own, limit);
+        taken[i] = u8::from(after.taken);
+        limit = after.limit;
     }
     limit
 }

@@ -1,45 +1,38 @@
-// One record of a row: nine bytes, the kind (0 a bet, else a new limit), the account, the stake or limit.
-ghost use Rattle.std.specs.Prelude.{◌≡◌, ◌+◌, ◌*◌, ◌<◌, ◌≤◌, eqb, length};
+// The records of a row, nine bytes each: the kind (0 a bet, else a new limit), the account, the stake or limit.
+ghost use Rattle.std.specs.Prelude.{◌≡◌, ◌+◌, ◌*◌, ◌≤◌, length};
 ghost use Rattle.truss.specs.Limits.{record_length};
-ghost use Rattle.truss.specs.Record.{byte_at};
-ghost use Rattle.truss.specs.Bets.{wide_at};
-ghost use Rattle.columns.specs.Columns.{entry_bound};
-ghost use Rattle.day.specs.Records.{InRow};
+ghost use Rattle.truss.specs.Bets.{record_at, wide_at};
+ghost use Rattle.day.specs.Records.{InRow, day_record};
 
-use columns::HALF;
 use limits::RECORD_BYTES;
-use wire::field_at;
+
+// A record: a bet of a stake on an account, or a new limit from then on.
+#[derive(Clone, Copy)]
+pub enum Record {
+    Bet { account: u32, stake: u32 },
+    Limit(u32),
+}
 
 // The number in four bytes, high byte first.
-fn wide_at(s: &[u8], at: usize) -> usize
+fn wide_at(s: &[u8], at: usize) -> u32
     requires { at + 4 ≤ length s.now }
-    ensures { (result ≡ wide_at s.now at) × (result < entry_bound) }
+    ensures { result ≡ wide_at s.now at }
 {
-    let high = field_at(s, at);
-    let low = field_at(s, at + 2);
-    high * HALF + low
+    u32::from_be_bytes([s[at], s[at + 1], s[at + 2], s[at + 3]])
 }
 
-// Whether record i is a bet.
-pub fn is_bet(s: &[u8], i: usize) -> bool
+// Record i of a row.
+pub fn record_at(s: &[u8], i: usize) -> Record
     requires { InRow s.now i }
-    ensures { result ≡ eqb (byte_at s.now (i * record_length)) 0 }
+    ensures { day_record result ≡ record_at s.now (i * record_length) }
 {
-    s[i * RECORD_BYTES] == 0
-}
-
-// Its account.
-pub fn account(s: &[u8], i: usize) -> usize
-    requires { InRow s.now i }
-    ensures { (result ≡ wide_at s.now (i * record_length + 1)) × (result < entry_bound) }
-{
-    wide_at(s, i * RECORD_BYTES + 1)
-}
-
-// Its stake or limit.
-pub fn amount(s: &[u8], i: usize) -> usize
-    requires { InRow s.now i }
-    ensures { (result ≡ wide_at s.now (i * record_length + 5)) × (result < entry_bound) }
-{
-    wide_at(s, i * RECORD_BYTES + 5)
+    let at = i * RECORD_BYTES;
+    let amount = wide_at(s, at + 5);
+    if s[at] != 0 {
+        return Record::Limit(amount);
+    }
+    Record::Bet {
+        account: wide_at(s, at + 1),
+        stake: amount,
+    }
 }

@@ -1,17 +1,20 @@
 -- Over any run of questions each window's tally is its start plus its own answered questions, unless it rests at the top, however the windows are interleaved. Of calls by
 -- their promises: of the desk that is lent, and of a desk record that is lent as bytes. Assumes nothing.
-use Rattle.std.specs.Prelude.{◌≡◌, refl, List, ◌++◌, ℕ, ◌+◌, ◌≤◌, ◌<◌, min, length, get_or, take, drop}
+use Rattle.std.specs.Prelude.{Result, ◌≡◌, refl, List, ◌++◌, ℕ, ◌+◌, ◌≤◌, ◌<◌, min, length, get_or, take, drop}
 use Rattle.std.proofs.Common.{ap, ◌∙◌}
 use Rattle.truss.specs.Limits.{windows, max_tally}
 use Rattle.truss.specs.Question.{Question}
-use Rattle.truss.specs.Call.{Reply, Asked, AskedBytes, tally_at}
+use Rattle.truss.specs.Call.{Reply, Asked, AskedBytes, tally_at, ask_bytes}
 use Rattle.truss.specs.Run.{Seen, Run, none, one, own_answered, Asks, AsksBytes}
 use Rattle.laws.proofs.Run.{run_tallies, run_record}
+use Rattle.limits.specs.declared.refusal.Refusal.{Refusal}
 use Rattle.index.specs.declared.Reply.{Reply as CReply}
 use Rattle.index.specs.Build.{reply_in}
+use Rattle.index.specs.declared.answers.Answered.{Answered}
+use Rattle.index.specs.Answered.{reply_of}
 use Rattle.desk.specs.declared.Desk.{Desk}
 use Rattle.desk.specs.Desk.{AskGives}
-use Rattle.desk.specs.DeskBytes.{AskBytesGives}
+use Rattle.desk.specs.DeskBytes.{asked_bytes, AskBytesGives, AskBytesReplies}
 
 -- a run of what does no more than others do is a run of those
 run_map : {S T : Type 0} (P : S → ℕ → Reply → S → Type 0) (Q : T → ℕ → Reply → T → Type 0) (f : S → T) → ((s t : S) (w : ℕ) (r : Reply) → P s w r t → Q (f s) w r (f t))
@@ -26,13 +29,13 @@ pub record Call (d : Desk) (w : ℕ) (reply : Reply) (e : Desk) : Type 0 where
   pub bytes : List ℕ
   pub question : Question
   pub buffer : List ℕ
-  pub result : CReply
+  pub result : Result Answered Refusal
   pub buffer' : List ℕ
   pub gives : AskGives d bytes question buffer w result buffer' e
-  pub replies : reply ≡ reply_in result
+  pub replies : reply ≡ reply_of result
 
 -- what meets the promise is such a call, and nothing more is asked of it
-pub call : (b : List ℕ) (q : Question) (out : List ℕ) (w : ℕ) (r : CReply) (out' : List ℕ) (d e : Desk) → AskGives d b q out w r out' e → Call d w (reply_in r) e
+pub call : (b : List ℕ) (q : Question) (out : List ℕ) (w : ℕ) (r : Result Answered Refusal) (out' : List ℕ) (d e : Desk) → AskGives d b q out w r out' e → Call d w (reply_of r) e
 call b q out w r out' d e A = record { bytes = b; question = q; buffer = out; result = r; buffer' = out'; gives = A; replies = refl }
 
 call_asks : (d e : Desk) (w : ℕ) (r : Reply) → Call d w r e → Asks d.tallies w r e.tallies
@@ -52,34 +55,29 @@ library_run d e xs q R = run_tallies d.tallies e.tallies xs q (run_map Call Asks
 
 -- ---- the desk record as bytes
 
--- a call of `ask_bytes`, or of one of the questions for a C host, that is lent the record or only a first part of it
-pub record CallBytes (desk : List ℕ) (w : ℕ) (reply : Reply) (desk' : List ℕ) : Type 0 where
-  pub bytes : List ℕ
-  pub question : Question
-  pub buffer : List ℕ
-  pub lent : ℕ
-  pub result : CReply
-  pub buffer' : List ℕ
-  pub part' : List ℕ
-  pub gives : AskBytesGives bytes question buffer w (take lent desk) result buffer' part'
-  pub replies : reply ≡ reply_in result
-  pub leaves : desk' ≡ part' ++ drop lent desk
+-- what a call of `ask_bytes` gives back, or one of the questions for a C host, that is lent the record or only a first part of it
+pub data CallBytes (desk : List ℕ) (w : ℕ) (reply : Reply) (desk' : List ℕ) : Type 0 where
+  of_library : (b : List ℕ) (q : Question) (out : List ℕ) (lent : ℕ) (result : Result Answered Refusal) (out' part' : List ℕ) → AskBytesGives b q out w (take lent desk) result out' part'
+      → reply ≡ reply_of result → desk' ≡ part' ++ drop lent desk → CallBytes desk w reply desk'
+  of_host : (b : List ℕ) (q : Question) (out : List ℕ) (lent : ℕ) (result : CReply) (out' part' : List ℕ) → AskBytesReplies b q out w (take lent desk) result out' part'
+      → reply ≡ reply_in result → desk' ≡ part' ++ drop lent desk → CallBytes desk w reply desk'
 
-pub call_bytes : (b : List ℕ) (q : Question) (out : List ℕ) (w : ℕ) (desk : List ℕ) (lent : ℕ) (r : CReply) (out' part' : List ℕ)
-    → AskBytesGives b q out w (take lent desk) r out' part' → CallBytes desk w (reply_in r) (part' ++ drop lent desk)
-call_bytes b q out w desk lent r out' part' A =
-    record { bytes = b; question = q; buffer = out; lent = lent; result = r; buffer' = out'; part' = part'; gives = A; replies = refl; leaves = refl }
+pub call_bytes : (b : List ℕ) (q : Question) (out : List ℕ) (w : ℕ) (desk : List ℕ) (lent : ℕ) (r : Result Answered Refusal) (out' part' : List ℕ)
+    → AskBytesGives b q out w (take lent desk) r out' part' → CallBytes desk w (reply_of r) (part' ++ drop lent desk)
+call_bytes b q out w desk lent r out' part' A = of_library b q out lent r out' part' A refl refl
+
+pub host_call_bytes : (b : List ℕ) (q : Question) (out : List ℕ) (w : ℕ) (desk : List ℕ) (lent : ℕ) (r : CReply) (out' part' : List ℕ)
+    → AskBytesReplies b q out w (take lent desk) r out' part' → CallBytes desk w (reply_in r) (part' ++ drop lent desk)
+host_call_bytes b q out w desk lent r out' part' A = of_host b q out lent r out' part' A refl refl
+
+-- either way
+asks_bytes : (b : List ℕ) (q : Question) (out : List ℕ) (w : ℕ) (d e : List ℕ) (lent : ℕ) {r x : Reply} {out' part' : List ℕ} → asked_bytes x out' part' ≡ ask_bytes b q out w (take lent d) → r ≡ x → e ≡ part' ++ drop lent d → AsksBytes d w r e
+asks_bytes b q out w d e lent A p l =
+    record { bytes = b; question = q; buffer = out; lent = lent; replies = p ∙ ap (λ (y : AskedBytes). y.reply) A; leaves = l ∙ ap (λ (y : AskedBytes). y.desk ++ drop lent d) A }
 
 call_asks_bytes : (d e : List ℕ) (w : ℕ) (r : Reply) → CallBytes d w r e → AsksBytes d w r e
-call_asks_bytes d e w r c =
-    record {
-      bytes = c.bytes;
-      question = c.question;
-      buffer = c.buffer;
-      lent = c.lent;
-      replies = c.replies ∙ ap (λ (x : AskedBytes). x.reply) c.gives;
-      leaves = c.leaves ∙ ap (λ (x : AskedBytes). x.desk ++ drop c.lent d) c.gives;
-    }
+call_asks_bytes d e w r (of_library b q out lent x out' part' A p l) = asks_bytes b q out w d e lent A p l
+call_asks_bytes d e w r (of_host b q out lent x out' part' A p l) = asks_bytes b q out w d e lent A p l
 
 -- THE THEOREM of the record as bytes: four bytes hold no more than the top
 pub library_run_bytes : (desk desk' : List ℕ) (xs : List Seen) → Run CallBytes desk xs desk' → (length desk' ≡ length desk)

@@ -24,15 +24,14 @@ fn mark_one(w: &mut [u32], m: usize, e: usize, k: usize)
     put(w, m, ROOT_STRENGTH, r, k);
 }
 
-// Marks the roots of the links of strength k.
+// Marks the roots of the links of strength k. (The walks here are a loop of one call each: with a closure in place of the call each would have to say what it does with the work
+// space, which the call's contract says already.)
 fn mark_roots(w: &mut [u32], m: usize, k: usize)
     requires { MarksAsks m k w.old }
     ensures { MarksGives m k m w.old w.new }
 {
-    let mut e: usize = 0;
-    while e < m {
+    for e in 0..m {
         mark_one(w, m, e, k);
-        e += 1;
     }
 }
 
@@ -46,6 +45,7 @@ fn number_one(w: &mut [u32], m: usize, r: usize, k: usize, g: usize) -> usize
     }
     put(w, m, ROOT_GROUP, r, g);
     put(w, m, GROUP_STRENGTH, g, k);
+    // A column holds numbers alone, so no parent is one of them, as the index stores it.
     put(w, m, GROUP_PARENT, g, NO_GROUP);
     put(w, m, GROUP_LEAST, g, r);
     g + 1
@@ -57,10 +57,8 @@ fn number_roots(w: &mut [u32], m: usize, k: usize, from: usize) -> usize
     ensures { NumbersGives m k m from result w.old w.new }
 {
     let mut g = from;
-    let mut r: usize = 0;
-    while r < m {
+    for r in 0..m {
         g = number_one(w, m, r, k, g);
-        r += 1;
     }
     g
 }
@@ -83,10 +81,8 @@ fn name_groups(w: &mut [u32], m: usize, k: usize)
     requires { NamesAsks m k w.old }
     ensures { NamesGives m k m w.old w.new }
 {
-    let mut e: usize = 0;
-    while e < m {
+    for e in 0..m {
         name_one(w, m, e, k);
-        e += 1;
     }
 }
 
@@ -112,10 +108,8 @@ fn adopt(w: &mut [u32], m: usize, k: usize, count: usize)
     requires { AdoptsAsks m k count w.old }
     ensures { AdoptsGives m k count count w.old w.new }
 {
-    let mut g: usize = 0;
-    while g < count {
+    for g in 0..count {
         adopt_one(w, m, k, g);
-        g += 1;
     }
 }
 

@@ -28,16 +28,14 @@ fn levels(w: &mut [u32], m: usize, n: usize, row: &[u32], mark: &mut [u32]) -> S
     let mut joins: usize = 0;
     let mut groups: usize = 0;
     let mut k = top(w, m);
+    // A while: the next weight is read from the work space after each level, so there is no range to name.
     while LEAST_LEVEL < k {
         joins = level(w, m, n, row, mark, k, joins);
         groups = group(w, m, k, groups);
         k = top(w, m);
     }
     groups = group(w, m, LEAST_LEVEL, groups);
-    Sizes {
-        joins: joins,
-        groups: groups,
-    }
+    Sizes { joins, groups }
 }
 
 // With account-sized memory lent.

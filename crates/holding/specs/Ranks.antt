@@ -1,5 +1,5 @@
 -- The named accounts, each with a rank: 1, 2, .. by first naming; other accounts have 0. Assumes nothing.
-use Rattle.std.specs.Prelude.{◌≡◌, ◌⊎◌, ◌≢◌, List, [], ◌∷◌, ℕ, zero, suc, ◌+◌, ◌*◌, ◌-◌, ◌≤◌, ◌<◌, length, get_or, set}
+use Rattle.std.specs.Prelude.{◌≡◌, ◌⊎◌, ◌≢◌, Option, Some, None, SomeIff, List, [], ◌∷◌, ℕ, zero, suc, ◌+◌, ◌*◌, ◌-◌, ◌≤◌, ◌<◌, length, get_or, set}
 use Rattle.std.proofs.Common.{sym, ap, ◌∙◌, inl, inr, arith, length-set, get_or-set_same, get_or-set_other}
 use mathlib.Core.List.Memᴰ.{cases_cons as in-cons}
 use mathlib.Core.List.Memᴰ.{head as here}
@@ -13,6 +13,20 @@ use Rattle.columns.specs.Wiping.{Zeros}
 
 abbrev pub rank_in : List ℕ → ℕ → ℕ
 rank_in ranks v = get_or ranks v 0
+
+-- the rank whose marks a column has; no column, no rank
+abbrev pub rank_of : Option ℕ → ℕ
+rank_of None = 0
+rank_of (Some c) = c + 1
+
+-- the column of a rank
+pub ranked : (o : Option ℕ) {x : ℕ} → SomeIff o (1 ≤ x) (x - 1) → rank_of o ≡ x
+ranked None {x} S = go (same_or_not x 0)
+  where
+    go : (x ≡ 0) ⊎ (x ≢ 0) → 0 ≡ x
+    go (inl z) = sym z
+    go (inr n) = absurd (S (omega (arith, n)))
+ranked (Some c) {x} S = omega (arith, S.0, S.1)
 
 -- v is among the first j accounts that are named
 abbrev pub Before : List ℕ → ℕ → ℕ → Type 0

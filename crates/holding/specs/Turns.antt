@@ -1,5 +1,5 @@
 -- The turns of the loops that rank accounts and mark groups. Assumes nothing.
-use Rattle.std.specs.Prelude.{◌≡◌, refl, ◌⊎◌, ◌≢◌, true, List, ℕ, ◌+◌, ◌*◌, ◌-◌, ◌≤◌, ◌<◌, length, set}
+use Rattle.std.specs.Prelude.{◌≡◌, refl, ◌⊎◌, ◌≢◌, true, List, ℕ, ◌+◌, ◌*◌, ◌≤◌, ◌<◌, length, set}
 use Rattle.std.proofs.Common.{sym, ap, ◌∙◌, subst, inl, inr, arith}
 use mathlib.Core.List.{Memᴰ as In}
 use Rattle.truss.specs.Limits.{no_group, max_accounts, max_links, max_named}
@@ -14,8 +14,7 @@ use Rattle.laws.proofs.Tree.{parent_rises}
 use Rattle.columns.specs.Columns.{cell, store, COLUMNS}
 use Rattle.columns.specs.Laws.{Upd, Same, upd_store, same_store, length-store, stored as stored-cell, kept_entry, kept_column}
 use Rattle.columns.specs.Wiping.{Wiped, wiped_still, zeros, zeros-length, zeros-cell}
-use Rattle.index.specs.declared.open.Outline.{Outline}
-use Rattle.stored.specs.Rows.{graph_in, IsIndex, GroupsAt, Outlined, own_group, parent_of, proper, fits_groups, few, few_links, few_accounts, parent_cases, own_below, Sized, shape_sized, sized_few}
+use Rattle.stored.specs.Rows.{graph_in, IsIndex, own_group, parent_of, proper, fits_groups, few_accounts, parent_cases, own_below, Shape, Sized, shape_sized, sized_few}
 use Rattle.holding.specs.Marks.{Marks, marks_none, marks_as, marks_set}
 use Rattle.holding.specs.Ranks.{rank_in, Before, Ranks, ranks_again, ranks_new, before_in}
 use Rattle.holding.specs.Held.{Own, HeldBy, Lifted, lifted_held, held_lifted, all_held, held_all}
@@ -131,15 +130,15 @@ pub record Marked (m g r : ℕ) (w w' : List ℕ) : Type 0 where
   pub else : (c : ℕ) → r ≢ c + 1 → Same m (cell w m c) (cell w' m c)
   pub keeps : (d count : ℕ) → r ≤ d → g < count → Within m d count w → Within m d count w'
 
-pub marked-none : {m g r : ℕ} {w : List ℕ} → r ≡ 0 → Marked m g r w w
-marked-none z = record { length_is = refl; here = λ c q. absurd (omega arith); else = λ c n y l. refl; keeps = λ d count h k B. B }
+pub marked-none : {m g : ℕ} {w : List ℕ} → Marked m g 0 w w
+marked-none = record { length_is = refl; here = λ c q. absurd (omega arith); else = λ c n y l. refl; keeps = λ d count h k B. B }
 
-pub marked-store : (w : List ℕ) (m g r : ℕ) → r ≢ 0 → r ≤ COLUMNS → g < m → length w ≡ COLUMNS * m → Marked m g r w (store w m (r - 1) g 1)
-marked-store w m g r nz few-r l size = record {
-  length_is = length-store w m (r - 1) g 1;
-  here = λ c q. let e : r - 1 ≡ c = omega arith in rw e (upd_store w m c g 1 (omega arith) l size);
-  else = λ c n. same_store w m (r - 1) c g 1 (λ e. n (omega (arith, e, nz))) l;
-  keeps = λ d count h k. within_store (omega (arith, nz, h)) k l (omega arith);
+pub marked-store : (w : List ℕ) (m g x : ℕ) → x + 1 ≤ COLUMNS → g < m → length w ≡ COLUMNS * m → Marked m g (x + 1) w (store w m x g 1)
+marked-store w m g x few-x l size = record {
+  length_is = length-store w m x g 1;
+  here = λ c q. let e : x ≡ c = omega arith in rw e (upd_store w m c g 1 (omega arith) l size);
+  else = λ c n. same_store w m x c g 1 (λ e. n (omega (arith, e))) l;
+  keeps = λ d count h k. within_store (omega (arith, h)) k l (omega arith);
 }
 
 marked_marks : {m count g r : ℕ} (c : ℕ) {w w' : List ℕ} {P : ℕ → Type 0} → count ≤ m → Marks (cell w m c) count P → Marked m g r w w'
@@ -158,20 +157,11 @@ marked_marks {m} {count} {g} {r} c {w} {w'} {P} few-c M K = go (same_or_not r (c
         back h (inl p) = p
         back h (inr (s, t)) = absurd (n t)
 
--- what marking asks of index, ranks and work space
-pub record MarkGiven (b : List ℕ) (m count d : ℕ) (ranks : List ℕ) : Type 0 where
-  pub is_index : IsIndex b
-  pub links : size (graph_in b) ≡ m
-  pub groups : group_count (graph_in b) ≡ count
+-- what marking asks of ranks and work space
+pub record MarkGiven (G : Graph) (d : ℕ) (ranks : List ℕ) : Type 0 where
   pub columns : d ≤ COLUMNS
-  pub room : (graph_in b).n ≤ length ranks
-  pub most : (v : ℕ) → v < (graph_in b).n → rank_in ranks v ≤ d
-
-pub few_in : {b : List ℕ} {m count d : ℕ} {ranks : List ℕ} → MarkGiven b m count d ranks → count ≤ m
-few_in A = omega (arith, few A.is_index, A.links, A.groups)
-
-pub few_all : {b : List ℕ} {m count d : ℕ} {ranks : List ℕ} → MarkGiven b m count d ranks → m ≤ max_links
-few_all A = omega (arith, few_links A.is_index, A.links)
+  pub room : G.n ≤ length ranks
+  pub most : (v : ℕ) → v < G.n → rank_in ranks v ≤ d
 
 pub ends_below : {b : List ℕ} → IsIndex b → (i : ℕ) → i < size (graph_in b) → ((link_at (graph_in b) i).lo < (graph_in b).n) × ((link_at (graph_in b) i).hi < (graph_in b).n)
 ends_below {b} I i l =
@@ -191,26 +181,26 @@ own-none {b} {m} few-d e = record {
   marks = λ c l. rw e (marks_none (λ g h. zeros-cell (COLUMNS * m) m c g) (λ g (j, lj, o, r). omega (arith, lj)));
 }
 
-module _ {b : List ℕ} {m count d : ℕ} {ranks : List ℕ} (A : MarkGiven b m count d ranks) {i : ℕ} {w : List ℕ} (O : OwnMarks b m count d ranks i w) (l : i < m) where
+module _ {b : List ℕ} {at m count d : ℕ} {ranks : List ℕ} (X : Sized b at m count) (A : MarkGiven (graph_in b) d ranks) {i : ℕ} {w : List ℕ} (O : OwnMarks b m count d ranks i w) (l : i < m) where
   li : i < size (graph_in b)
-  li = omega (arith, A.links)
+  li = omega (arith, X.links)
 
   own_first : (c g : ℕ) → Own (graph_in b) ranks c i g → Own (graph_in b) ranks c (i + 1) g
   own_first c g (j, lj, o, r) = (j, omega (arith, lj), o, r)
 
   pub own_in : {g : ℕ} → g ≡ own_group (graph_in b) i → g < count
-  own_in q = omega (arith, q, own_below A.is_index i li, A.groups)
+  own_in q = omega (arith, q, own_below X.groups_at_lem.is_index i li, X.groups)
 
   -- its ends mark the group that it names
   pub own_more : {g lo hi rl rh : ℕ} {w₁ w₂ : List ℕ} → g ≡ own_group (graph_in b) i → lo ≡ (link_at (graph_in b) i).lo → hi ≡ (link_at (graph_in b) i).hi
       → rl ≡ rank_in ranks lo → rh ≡ rank_in ranks hi → Marked m g rl w w₁ → Marked m g rh w₁ w₂ → OwnMarks b m count d ranks (i + 1) w₂
   own_more {g} {lo} {hi} {rl} {rh} {w₁} {w₂} q ql qh el eh K₁ K₂ = record {
     within = K₂.keeps d count (omega (arith, eh, A.most hi (omega (arith, qh, ends.1)))) (own_in q) (K₁.keeps d count (omega (arith, el, A.most lo (omega (arith, ql, ends.0)))) (own_in q) O.within);
-    marks = λ c h. marks_as (marked_marks c (few_in A) (marked_marks c (few_in A) (O.marks c h) K₁) K₂) (λ x k. refl) (λ x k p. to c x p) (λ x k p. back c x p);
+    marks = λ c h. marks_as (marked_marks c (sized_few X).0 (marked_marks c (sized_few X).0 (O.marks c h) K₁) K₂) (λ x k. refl) (λ x k p. to c x p) (λ x k p. back c x p);
   }
     where
       ends : ((link_at (graph_in b) i).lo < (graph_in b).n) × ((link_at (graph_in b) i).hi < (graph_in b).n)
-      ends = ends_below A.is_index i li
+      ends = ends_below X.groups_at_lem.is_index i li
 
       to : (c x : ℕ) → (Own (graph_in b) ranks c i x ⊎ ((x ≡ g) × (rl ≡ c + 1))) ⊎ ((x ≡ g) × (rh ≡ c + 1)) → Own (graph_in b) ranks c (i + 1) x
       to c x (inl (inl p)) = own_first c x p
@@ -471,11 +461,10 @@ meet_all_more {m} {count} {c} {w₀} {w} {w₁} {w'} few-c some S M W = record {
 
 -- ---- the whole
 
-pub record HoldAsks (b : List ℕ) (o : Outline) (k : ℕ) (named w : List ℕ) : Type 0 where
-  pub shape : Outlined b o
-  pub names : Names o.n k named
+pub record HoldAsks (n m k : ℕ) (named w : List ℕ) : Type 0 where
+  pub names : Names n k named
   pub some : 0 < k
-  pub blank : w ≡ zeros (COLUMNS * o.m)
+  pub blank : w ≡ zeros (COLUMNS * m)
 
 -- THE PROMISE: column 0 has 1 at each group that holds all named accounts; every other number of the work space is 0
 pub record HoldGives (b : List ℕ) (m count : ℕ) (named w : List ℕ) : Type 0 where
@@ -484,38 +473,16 @@ pub record HoldGives (b : List ℕ) (m count : ℕ) (named w : List ℕ) : Type 
   pub ones : (g : ℕ) → g < count → cell w m 0 g ≤ 1
   pub rest : (c y : ℕ) → c < COLUMNS → y < m → (0 < c) ⊎ (count ≤ y) → cell w m c y ≡ 0
 
-module _ {b : List ℕ} {o : Outline} {k : ℕ} {named w : List ℕ} (A : HoldAsks b o k named w) where
-  abbrev n : ℕ
-  n = o.n
-
-  abbrev m : ℕ
-  m = o.m
-
-  abbrev at : ℕ
-  at = o.at
-
-  abbrev count : ℕ
-  count = o.groups
-
-  abbrev GS : GroupsAt b at
-  GS = A.shape.groups_at_lem
-
+module _ {b : List ℕ} {n m at count k : ℕ} {named w : List ℕ} (X : Shape b n m at count) (A : HoldAsks n m k named w) where
   pub hold_few : (count ≤ m) × (m ≤ max_links) × (n ≤ max_accounts)
-  hold_few = (
-    omega (arith, few GS.is_index, A.shape.links, A.shape.groups),
-    omega (arith, few_links GS.is_index, A.shape.links),
-    omega (arith, few_accounts GS.is_index, A.shape.accounts),
-  )
-
-  pub hold_lift : Sized b at m count
-  hold_lift = shape_sized A.shape
+  hold_few = let r = sized_few (shape_sized X) in (r.0, r.1, omega (arith, few_accounts X.groups_at_lem.is_index, X.accounts))
 
   module _ {d : ℕ} {ranks' : List ℕ} (R : RankState n k d named ranks') where
     pub hold_columns : d ≤ COLUMNS
     hold_columns = omega (arith, R.few_ranks, A.names.few_names, named_columns)
 
     in_n : Ranks (graph_in b).n d ranks' (Before named k)
-    in_n = rw A.shape.accounts R.ranks_are
+    in_n = rw X.accounts R.ranks_are
 
     -- the first named account has a rank
     pub hold_some : 0 < d
@@ -528,15 +495,8 @@ module _ {b : List ℕ} {o : Outline} {k : ℕ} {named w : List ℕ} (A : HoldAs
         go (inl z) = absurd (R.ranks_are.no (field_at named (2 * 0)) l z (0, A.some, refl))
         go (inr nz) = omega (arith, nz, R.ranks_are.most (field_at named (2 * 0)) l)
 
-    pub hold_mark : MarkGiven b m count d ranks'
-    hold_mark = record {
-      is_index = GS.is_index;
-      links = A.shape.links;
-      groups = A.shape.groups;
-      columns = hold_columns;
-      room = in_n.room;
-      most = in_n.most;
-    }
+    pub hold_mark : MarkGiven (graph_in b) d ranks'
+    hold_mark = record { columns = hold_columns; room = in_n.room; most = in_n.most }
 
     pub hold_gives : {w₁ w₂ w₃ : List ℕ} → OwnMarks b m count d ranks' m w₁ → LiftAll b m count d w₁ w₂ → MeetAll m count d w₂ w₃ → HoldGives b m count named w₃
     hold_gives {w₁} {w₂} {w₃} O L M = record {
@@ -556,7 +516,7 @@ module _ {b : List ℕ} {o : Outline} {k : ℕ} {named w : List ℕ} (A : HoldAs
         rest c y l (inr h) (inl k) (inl s) = absurd (omega arith)
 
         below : (v : ℕ) → In v (accounts_in named) → v < (graph_in b).n
-        below v i = omega (arith, A.names.below v i, A.shape.accounts)
+        below v i = omega (arith, A.names.below v i, X.accounts)
 
         marks_c : (c : ℕ) → c < d → Marks (cell w₂ m c) count (HeldBy (graph_in b) ranks' c)
         marks_c c h = L.held ranks' c h (O.marks c h)

@@ -1,7 +1,9 @@
-// Ranks of the named accounts: 1, 2, .. by first naming, so that a repeat changes nothing; 0 for every other account.
-ghost use Rattle.std.specs.Prelude.{◌+◌, ◌*◌, ◌<◌, ◌≤◌, length};
+// Ranks of the named accounts: 1, 2, .. by first naming, so that a repeat changes nothing; 0 for every other account. (A rank is a number in lent memory and no
+// Option: nothing is allocated, and 0 is what memory has when it is cleared.)
+ghost use Rattle.std.specs.Prelude.{◌≡◌, ◌+◌, ◌*◌, ◌<◌, ◌≤◌, length};
 ghost use Rattle.truss.specs.Limits.{max_accounts, max_named};
 ghost use Rattle.columns.specs.Wiping.{Zeros};
+ghost use Rattle.holding.specs.Ranks.{rank_in, rank_of};
 ghost use Rattle.holding.specs.Turns.{Names, RankedOne, RankState};
 
 use columns::zero;
@@ -21,6 +23,14 @@ fn rank_one(ranks: &mut [u32], v: usize, d: usize) -> usize
     d + 1
 }
 
+// The column of account v's marks, that of its rank, if it has one.
+pub fn column_of(ranks: &[u32], v: usize) -> Option<usize>
+    requires { v < length ranks.now }
+    ensures { rank_of result ≡ rank_in ranks.now v }
+{
+    (ranks[v] as usize).checked_sub(1)
+}
+
 // The ranks of k named accounts, where there are none; gives how many there are.
 fn rank_all(ranks: &mut [u32], n: usize, named: &[u8], k: usize) -> usize
     requires zeros { Zeros n ranks.old }
@@ -30,11 +40,9 @@ fn rank_all(ranks: &mut [u32], n: usize, named: &[u8], k: usize) -> usize
     ensures { RankState n k result named.now ranks.new }
 {
     let mut d: usize = 0;
-    let mut j: usize = 0;
-    while j < k {
+    for j in 0..k {
         let v = field_at(named, 2 * j);
         d = rank_one(ranks, v, d);
-        j += 1;
     }
     d
 }

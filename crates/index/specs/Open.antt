@@ -1,5 +1,5 @@
 -- Opening an index: which bytes are one, and what is known of it then. Assumes nothing.
-use Rattle.std.specs.Prelude.{◌≡◌, refl, ◌⊎◌, ◌≢◌, Bool, true, false, List, ◌++◌, map, ℕ, zero, suc, ◌+◌, ◌*◌, ◌-◌, ◌≤◌, ◌<◌, length, get_or, take, drop}
+use Rattle.std.specs.Prelude.{Option, None, Some, ◌≡◌, refl, ◌⊎◌, ◌≢◌, Bool, true, false, List, ◌++◌, map, ℕ, zero, suc, ◌+◌, ◌*◌, ◌-◌, ◌≤◌, ◌<◌, length, get_or, take, drop}
 use Rattle.std.proofs.Common.{sym, ap, ap₂, ◌∙◌, subst, inl, inr, arith, ext_get_or, take_at}
 use mathlib.Core.List.{Memᴰ as In}
 use Rattle.std.proofs.lemmas.List.{length-map}
@@ -26,8 +26,6 @@ use Rattle.linksfile.specs.SortedLinks.{Row, row_named}
 use Rattle.linksfile.specs.Records.{key_of}
 use Rattle.linksfile.specs.Load.{ScanAsks}
 use Rattle.index.specs.declared.open.Outline.{Outline}
-use Rattle.index.specs.declared.open.Opening.{Opening}
-use Rattle.index.specs.declared.open.Opening.TheVariants.{NoIndex, Index}
 use Rattle.indexfile.specs.Rows.{join_in, group_in, groups_from, index_in}
 use Rattle.index.specs.Solved.{Blank, SolveAsks, Solved}
 use Rattle.index.specs.Strong.{strong_pair, strong_key, Strong, AllStrong, all_strong, index_head, first_is, second_is}
@@ -167,36 +165,41 @@ pub record Follows (b : List ℕ) (n at last k : ℕ) : Type 0 where
   pub is_key : k ≡ field_at b (at + 1) * 65536 + field_at b (at + 3)
   pub after : last < k
 
--- 0 where there is none
-pub data NextKey (b : List ℕ) (n at last r : ℕ) : Type 0 where
-  found : 0 < r → Follows b n at last r → NextKey b n at last r
-  none_follows : r ≡ 0 → ((k : ℕ) → ¬ (Follows b n at last k)) → NextKey b n at last r
+-- the key of the link that follows, or none
+pub NextKey : List ℕ → ℕ → ℕ → ℕ → Option ℕ → Type 0
+NextKey b n at last (Some k) = Follows b n at last k
+NextKey b n at last None = (k : ℕ) → ¬ (Follows b n at last k)
 
 module _ (b : List ℕ) (n at last : ℕ) where
-  pub next_not : whole b at kind_strong_link ≡ false → NextKey b n at last 0
-  next_not h = none_follows refl (λ k F. let y : true ≡ false = sym F.is_whole ∙ h in let z : ◌≡◌ {A = ℕ} 0 1 = cc in omega arith)
+  pub next_not : whole b at kind_strong_link ≡ false → NextKey b n at last None
+  unfolding NextKey
+  next_not h = λ k F. let y : true ≡ false = sym F.is_whole ∙ h in let z : ◌≡◌ {A = ℕ} 0 1 = cc in omega arith
 
   module _ {x y : ℕ} (ex : x ≡ field_at b (at + 1)) (ey : y ≡ field_at b (at + 3)) where
-    pub next_turned : y ≤ x → NextKey b n at last 0
-    next_turned h = none_follows refl (λ k F. omega (arith, h, ex, ey, F.ordered))
+    pub next_turned : y ≤ x → NextKey b n at last None
+    unfolding NextKey
+    next_turned h = λ k F. omega (arith, h, ex, ey, F.ordered)
 
-    pub next_above : n ≤ y → NextKey b n at last 0
-    next_above h = none_follows refl (λ k F. omega (arith, h, ey, F.below))
+    pub next_above : n ≤ y → NextKey b n at last None
+    unfolding NextKey
+    next_above h = λ k F. omega (arith, h, ey, F.below)
 
-    pub next_before : x * 65536 + y ≤ last → NextKey b n at last 0
-    next_before h = none_follows refl (λ k F. omega (arith, h, ex, ey, F.is_key, F.after))
+    pub next_before : x * 65536 + y ≤ last → NextKey b n at last None
+    unfolding NextKey
+    next_before h = λ k F. omega (arith, h, ex, ey, F.is_key, F.after)
 
-    pub next_found : whole b at kind_strong_link ≡ true → x < y → y < n → last < x * 65536 + y → NextKey b n at last (x * 65536 + y)
-    next_found h o l a = found (omega arith) (record { is_whole = h; ordered = omega (arith, o, ex, ey); below = omega (arith, l, ey); is_key = omega (arith, ex, ey); after = a })
+    pub next_found : whole b at kind_strong_link ≡ true → x < y → y < n → last < x * 65536 + y → NextKey b n at last (Some (x * 65536 + y))
+    unfolding NextKey
+    next_found h o l a = record { is_whole = h; ordered = omega (arith, o, ex, ey); below = omega (arith, l, ey); is_key = omega (arith, ex, ey); after = a }
 
 -- the answer, read
-pub next-none : {b : List ℕ} {n at last r : ℕ} → NextKey b n at last r → r ≡ 0 → (k : ℕ) → ¬ (Follows b n at last k)
-next-none (found l F) q = absurd (omega arith)
-next-none (none_follows z un) q = un
+pub next-none : {b : List ℕ} {n at last : ℕ} {r : Option ℕ} → NextKey b n at last r → r ≡ None → (k : ℕ) → ¬ (Follows b n at last k)
+unfolding NextKey
+next-none {b} {n} {at} {last} N q = subst (NextKey b n at last) q N
 
-pub next_is : {b : List ℕ} {n at last r : ℕ} → NextKey b n at last r → r ≢ 0 → Follows b n at last r
-next_is (found l F) q = F
-next_is (none_follows z un) q = absurd (q z)
+pub next_is : {b : List ℕ} {n at last k : ℕ} {r : Option ℕ} → NextKey b n at last r → r ≡ Some k → Follows b n at last k
+unfolding NextKey
+next_is {b} {n} {at} {last} N q = subst (NextKey b n at last) q N
 
 pub follows_small : {b : List ℕ} {n at last r : ℕ} → n ≤ max_accounts → Follows b n at last r → r < 67108864
 follows_small l F = omega (arith, l, F.is_key, F.ordered, F.below)
@@ -294,9 +297,9 @@ open_scan {b} {n} {m} P =
     record { size = P.size; few = omega (arith, H.links); small = H.accounts }
 
 -- the answer of a check, with what is known then
-unfoldable pub opening_of : Bool → ℕ → ℕ → ℕ → ℕ → Opening
-opening_of true n m at groups = Index (record { n = n; m = m; at = at; groups = groups })
-opening_of false n m at groups = NoIndex
+unfoldable pub opening_of : Bool → ℕ → ℕ → ℕ → ℕ → Option Outline
+opening_of true n m at groups = Some (record { n = n; m = m; at = at; groups = groups })
+opening_of false n m at groups = None
 
 -- the bytes are an index: of the graph that head and strong links name, with its groups at that place
 pub record Opened (b : List ℕ) (n m at groups : ℕ) : Type 0 where
@@ -307,24 +310,24 @@ pub record Opened (b : List ℕ) (n m at groups : ℕ) : Type 0 where
   pub groups_are : groups ≡ length (index (graph_of n (pairs_in b m))).groups
 
 -- THE PROMISE of an opening: 7 for bytes that are no index, and of an index its outline
-pub OpenSays : List ℕ → Opening → Type 0
-OpenSays b (Index o) = Opened b o.n o.m o.at o.groups
-OpenSays b NoIndex = read_index b ≡ refuse 7 0
+pub OpenSays : List ℕ → Option Outline → Type 0
+OpenSays b (Some o) = Opened b o.n o.m o.at o.groups
+OpenSays b None = read_index b ≡ refuse 7 0
 
 -- and of what is lent for the work space: its sixteen numbers for each link that the head names are 0, the rest stays
 unfoldable pub cleared : Checked Head → List ℕ → List ℕ
 cleared (passed h) work = zeros (COLUMNS * h.m) ++ drop (COLUMNS * h.m) work
 cleared (refused r) work = work
 
-pub keys_fail_says : {b : List ℕ} {n m : ℕ} → read_head kind_index_head b ≡ passed (record { n = n; m = m }) → ¬ (AllStrong b n m) → OpenSays b NoIndex
+pub keys_fail_says : {b : List ℕ} {n m : ℕ} → read_head kind_index_head b ≡ passed (record { n = n; m = m }) → ¬ (AllStrong b n m) → OpenSays b None
 unfolding OpenSays
 keys_fail_says {b} {n} {m} head un = not_strong b n m head un
 
-pub head_fail_says : (b : List ℕ) {k : ℕ} → refuse k 0 ≡ read_head kind_index_head b → OpenSays b NoIndex
+pub head_fail_says : (b : List ℕ) {k : ℕ} → refuse k 0 ≡ read_head kind_index_head b → OpenSays b None
 unfolding OpenSays
 head_fail_says b {k} q = no_head b k q
 
-pub open_says : {b : List ℕ} {n m at joins groups : ℕ} {w : List ℕ} {t : Bool} {r : Opening} → read_head kind_index_head b ≡ passed (record { n = n; m = m }) → AllStrong b n m
+pub open_says : {b : List ℕ} {n m at joins groups : ℕ} {w : List ℕ} {t : Bool} {r : Option Outline} → read_head kind_index_head b ≡ passed (record { n = n; m = m }) → AllStrong b n m
     → Solved n m joins groups (pairs_in b m) w → Tells t (b ≡ encode (index_in w n m joins groups)) → at ≡ groups_from m joins → r ≡ opening_of t n m at groups → OpenSays b r
 unfolding index_bytes opening_of OpenSays index_in
 open_says {b} {n} {m} {at} {joins} {groups} {w} {t} {r} head A S T p q = subst (OpenSays b) (sym q) (go t refl)
@@ -343,11 +346,11 @@ open_says {b} {n} {m} {at} {joins} {groups} {w} {t} {r} head A S T p q = subst (
     go false h = takes_not b n m head A (λ p. T.no_is h (p ∙ sym e))
 
 -- the answer, read
-pub opened_is : (b : List ℕ) {r : Opening} {o : Outline} → OpenSays b r → r ≡ Index o → Opened b o.n o.m o.at o.groups
+pub opened_is : (b : List ℕ) {r : Option Outline} {o : Outline} → OpenSays b r → r ≡ Some o → Opened b o.n o.m o.at o.groups
 unfolding OpenSays
 opened_is b O q = subst (OpenSays b) q O
 
-pub not_opened : (b : List ℕ) {r : Opening} → OpenSays b r → r ≡ NoIndex → read_index b ≡ refuse 7 0
+pub not_opened : (b : List ℕ) {r : Option Outline} → OpenSays b r → r ≡ None → read_index b ≡ refuse 7 0
 unfolding OpenSays
 not_opened b O q = subst (OpenSays b) q O
 

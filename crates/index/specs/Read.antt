@@ -1,5 +1,5 @@
 -- Reading an index: what the reader writes. Assumes nothing.
-use Rattle.std.specs.Prelude.{◌≡◌, ℕ, ◌+◌, ◌*◌, ◌≤◌, ◌<◌, length}
+use Rattle.std.specs.Prelude.{Result, Ok, Err, ◌≡◌, ℕ, ◌+◌, ◌*◌, ◌≤◌, ◌<◌, length}
 use Rattle.std.proofs.Math.Path.{refl, sym, ap, ap₂}
 use Rattle.std.proofs.Common.{◌∙◌, arith, length-append, lt-ltb, le-ltb}
 use mathlib.Core.List.{List, ◌++◌, append_assoc}
@@ -12,14 +12,21 @@ use Rattle.truss.specs.Index.{index_bytes}
 use Rattle.truss.specs.IndexFile.{read_index}
 use Rattle.truss.specs.Call.{Written, done, write, check_room, read}
 use Rattle.wire.specs.Writing.{written, written_start, up_to, up_to_rows, up_to_length}
+use Rattle.limits.specs.declared.refusal.Refusal.{Refusal}
+use Rattle.limits.specs.declared.refusal.Refusal.TheVariants.{NoIndex, NoRoom}
+use Rattle.limits.specs.Refusals.{number_of, checked}
 use Rattle.index.specs.declared.Reply.{Reply as CReply}
-use Rattle.index.specs.Build.{Replies, replied, reply_in, reply_with, reply_same}
+use Rattle.index.specs.Build.{given_back, replied, reply_of}
 use Rattle.index.specs.Strong.{strong_pair, AllStrong}
 use Rattle.index.specs.Open.{pairs_in, pairs_count, pairs_of_index, pairs_accepted, takes, whole_strong}
 
--- THE PROMISE of a reading: its reply and every byte of the lent buffer are what the definition gives
-abbrev pub ReadGives : List ℕ → List ℕ → CReply → List ℕ → Type 0
-ReadGives bytes lent r after = replied r after ≡ read bytes lent
+-- THE PROMISE of a reading: its result and every byte of the lent buffer are what the definition gives
+abbrev pub ReadGives : List ℕ → List ℕ → Result ℕ Refusal → List ℕ → Type 0
+ReadGives bytes lent r after = given_back (checked r) after ≡ read bytes lent
+
+-- the same of a reply
+abbrev pub ReadReplies : List ℕ → List ℕ → CReply → List ℕ → Type 0
+ReadReplies bytes lent r after = replied r after ≡ read bytes lent
 
 -- strong link i read back as a plain one
 abbrev pub back_bytes : List ℕ → ℕ → List ℕ
@@ -43,9 +50,9 @@ module _ (b : List ℕ) (n m : ℕ) (head : read_head kind_index_head b ≡ pass
       ap (write_links n) same ∙ rw (pairs_count b m, ← up_to_rows pair_bytes (strong_pair b) m) (sym (append_assoc (head_bytes kind_head n m) (up_to (back_bytes b) m) end_bytes))
 
 module _ (b out : List ℕ) where
-  pub read_refused : {r : CReply} → read_index b ≡ refuse 7 0 → Replies r 7 0 → ReadGives b out r out
-  unfolding read map_passed check_room and_then write
-  read_refused q R = reply_with out R ∙ rw (q, map_passed, check_room, and_then, write) refl
+  pub read_refused : read_index b ≡ refuse 7 0 → ReadGives b out (Err NoIndex) out
+  unfolding read map_passed check_room and_then write checked reply_of number_of
+  read_refused q = rw (q, map_passed, check_room, and_then, write) refl
 
   module _ (n m : ℕ) (head : read_head kind_index_head b ≡ passed (record { n = n; m = m })) (A : AllStrong b n m) (q : b ≡ index_bytes (graph_of n (pairs_in b m))) where
     abbrev pub file : List ℕ
@@ -63,16 +70,16 @@ module _ (b out : List ℕ) where
     unfolding read map_passed
     here = rw (takes b n m head A q, map_passed) (ap {B = Written} (λ (x : List ℕ). write (check_room (passed x) out) out) back)
 
-    pub read_no_room : {r : CReply} → length out < 6 + m * 5 → Replies r 12 0 → ReadGives b out r out
-    unfolding check_room and_then write
-    read_no_room {r} l R =
-        let e : replied r out ≡ write (check_room (passed file) out) out = reply_with out R ∙ rw (lt-ltb (length out) (length file) (omega (arith, file-length))) refl in
+    pub read_no_room : length out < 6 + m * 5 → ReadGives b out (Err NoRoom) out
+    unfolding check_room and_then write checked reply_of number_of
+    read_no_room l =
+        let e : given_back (checked (Err NoRoom)) out ≡ write (check_room (passed file) out) out = rw (lt-ltb (length out) (length file) (omega (arith, file-length))) refl in
         e ∙ sym here
 
-    pub read-wrote : {r : CReply} {out' : List ℕ} → 6 + m * 5 ≤ length out → out' ≡ written out 0 file → Replies r 0 (6 + m * 5) → ReadGives b out r out'
-    unfolding check_room and_then write
-    read-wrote {r} {out'} l w R =
+    pub read-wrote : {out' : List ℕ} → 6 + m * 5 ≤ length out → out' ≡ written out 0 file → ReadGives b out (Ok (6 + m * 5)) out'
+    unfolding check_room and_then write checked reply_of
+    read-wrote {out'} l w =
         let e : out' ≡ file ++ drop (length file) out = w ∙ written_start out file in
-        let v : reply_in r ≡ done (length file) = reply_same R ∙ ap done (sym (file-length ∙ omega arith)) in
-        let z : replied r out' ≡ write (check_room (passed file) out) out = rw (le-ltb (length out) (length file) (omega (arith, file-length))) (λ i. record { reply = v i; buffer = e i }) in
+        let v : done (6 + m * 5) ≡ done (length file) = ap done (sym (file-length ∙ omega arith)) in
+        let z : given_back (checked (Ok (6 + m * 5))) out' ≡ write (check_room (passed file) out) out = rw (le-ltb (length out) (length file) (omega (arith, file-length))) (λ i. record { reply = v i; buffer = e i }) in
         z ∙ sym here

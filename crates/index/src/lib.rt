@@ -1,13 +1,11 @@
 // The build, a links file into its index; the opening, whether bytes are an index and what is known of it; the reading, an index back into its links file.
 #![tactic(auto)]
 
-ghost use Rattle.std.specs.Prelude.{◌≡◌};
-ghost use Rattle.truss.specs.Call.{done_with};
-ghost use Rattle.index.specs.Build.{Replies, reply_in};
-
+pub mod answers;
 pub mod build;
 pub mod open;
 pub mod read;
+mod replies;
 mod solve;
 
 // What a call gives back: refusal 0 and a value, and a second number where the answer has two; or a refusal's number and its place as the value. The others are 0.
@@ -18,27 +16,4 @@ pub struct Reply {
     pub value: u32,
     pub second: u32,
     pub third: u32,
-}
-
-pub fn answered(refusal: u32, value: u32) -> Reply
-    ensures { Replies result refusal value }
-{
-    Reply {
-        refusal: refusal,
-        value: value,
-        second: 0,
-        third: 0,
-    }
-}
-
-// An answer of two numbers.
-pub fn answered_two(value: u32, second: u32) -> Reply
-    ensures { reply_in result ≡ done_with value second }
-{
-    Reply {
-        refusal: 0,
-        value: value,
-        second: second,
-        third: 0,
-    }
 }

@@ -16,7 +16,7 @@ use columns::{
     OWN_GROUP, STRENGTH, clear, put, wipe, wipe_range,
 };
 use indexfile::{groups_place, same_index};
-use linksfile::{FileHead, read_head};
+use linksfile::{Head, read_head};
 use wire::{INDEX_HEAD, STRONG_LINK, field_at, whole_record};
 
 // What is known of an index: how many accounts and links it has, where its groups stand, and how many they are.
@@ -28,33 +28,27 @@ pub struct Outline {
     pub groups: usize,
 }
 
-#[derive(Clone, Copy)]
-pub enum Opening {
-    NoIndex,
-    Index(Outline),
-}
-
-// The key of the strong link at a place, if one stands there and comes after the last key; else 0.
-fn next_key(s: &[u8], at: usize, n: usize, last: usize) -> usize
+// The key of the strong link at a place, if one stands there and comes after the last key.
+fn next_key(s: &[u8], at: usize, n: usize, last: usize) -> Option<usize>
     requires { at < place_bound }
     ensures { NextKey s.now n at last result }
 {
     if !whole_record(s, at, STRONG_LINK) {
-        return 0;
+        return None;
     }
     let a = field_at(s, at + 1);
     let b = field_at(s, at + 3);
     if b <= a {
-        return 0;
+        return None;
     }
     if n <= b {
-        return 0;
+        return None;
     }
     let k = a * HALF + b;
     if k <= last {
-        return 0;
+        return None;
     }
-    k
+    Some(k)
 }
 
 // The keys of an index's strong links into column 0; whether all are there, in order.
@@ -63,15 +57,14 @@ fn read_keys(s: &[u8], n: usize, m: usize, w: &mut [u32]) -> bool
     ensures { KeysRead s.now n m result w.new }
 {
     let mut last: usize = 0;
-    let mut i: usize = 0;
-    while i < m {
-        let k = next_key(s, 5 + 8 * i, n, last);
-        if k == 0 {
-            return false;
+    for i in 0..m {
+        match next_key(s, 5 + 8 * i, n, last) {
+            None => return false,
+            Some(k) => {
+                put(w, m, KEY, i, k);
+                last = k;
+            }
         }
-        put(w, m, KEY, i, k);
-        last = k;
-        i += 1;
     }
     true
 }
@@ -95,43 +88,38 @@ fn forget(w: &mut [u32], m: usize, joins: usize, groups: usize)
     wipe_range(w, m, GROUP_LEAST, 0, groups);
 }
 
-fn found(is: bool, n: usize, m: usize, at: usize, groups: usize) -> Opening
-    ensures { result ≡ opening_of is n m at groups }
-{
-    if is {
-        return Opening::Index(Outline { n, m, at, groups });
-    }
-    Opening::NoIndex
-}
-
 // The opening of bytes whose head is good, in a work space of sixteen numbers for each link, which is 0 afterwards.
-fn open_in(s: &[u8], w: &mut [u32], n: usize, m: usize) -> Opening
+fn open_in(s: &[u8], w: &mut [u32], n: usize, m: usize) -> Option<Outline>
     requires { OpenAsks s.now n m w.old }
     ensures open_says { OpenSays s.now result }
     ensures w_after { w.new ≡ zeros (COLUMNS * m) }
 {
     if !read_keys(s, n, m, w) {
         clear(w);
-        return Opening::NoIndex;
+        return None;
     }
     let z = solve(w, m, n);
     let joins = z.joins;
     let groups = z.groups;
     let is = same_index(s, w, n, m, joins, groups);
     forget(w, m, joins, groups);
-    found(is, n, m, groups_place(m, joins), groups)
+    let at = groups_place(m, joins);
+    if is {
+        return Some(Outline { n, m, at, groups });
+    }
+    None
 }
 
 // Whether bytes are an index: its outline, if they are. What is lent for the work space is 0 afterwards in its sixteen numbers for each link that a good head names; the rest
 // stays.
-pub fn open(index: &[u8], work: &mut [u32]) -> Opening
+pub fn open(index: &[u8], work: &mut [u32]) -> Option<Outline>
     requires { COLUMNS * max_links ≤ length work.old }
     ensures open_says { OpenSays index.now result }
     ensures work_after { work.new ≡ cleared (read_head kind_index_head index.now) work.old }
 {
     match read_head(index, INDEX_HEAD) {
-        FileHead::Refused(_) => Opening::NoIndex,
-        FileHead::Good { n, m } => {
+        Err(_) => None,
+        Ok(Head { n, m }) => {
             let size = COLUMNS * m;
             open_in(index, &mut work[..size], n, m)
         }

@@ -4,9 +4,9 @@ ghost use Rattle.truss.specs.Record.{end_bytes, head_bytes, kind_head};
 ghost use Rattle.wire.specs.Writing.{up_to, written};
 ghost use Rattle.index.specs.Read.{ReadGives, StrongFit, back_bytes};
 
-use crate::open::{Opening, open};
-use crate::{Reply, answered};
+use crate::open::open;
 use columns::room;
+use limits::refusal::Refusal;
 use wire::{END, HEAD, field_at, head_record, pair_record, paste};
 
 // The pairs of the strong links as plain links, at the front of what is lent.
@@ -15,16 +15,12 @@ fn write_pairs(out: &mut [u8], s: &[u8], m: usize)
     requires m_in_bounds { m * 5 ≤ length out.old }
     ensures { out.new ≡ written out.old 0 (up_to (back_bytes s.now) m) }
 {
-    let mut i: usize = 0;
-    let mut at: usize = 0;
-    while i < m {
+    for i in 0..m {
         let p = 5 + 8 * i;
         let a = field_at(s, p + 1);
         let b = field_at(s, p + 3);
         let rec = pair_record(a, b);
-        paste(&mut out[at..], &rec);
-        at += 5;
-        i += 1;
+        paste(&mut out[5 * i..], &rec);
     }
 }
 
@@ -41,21 +37,18 @@ fn write_back(out: &mut [u8], s: &[u8], n: usize, m: usize)
     paste(&mut out[e..], &[END]);
 }
 
-// An index back into its links file: the bytes written, or refusal 7 at place 0 if the bytes are no index, and then 12. Bytes after the file stay, and all
-// stay on a refusal.
-pub fn read(index: &[u8], out: &mut [u8]) -> Reply
+// An index back into its links file: the bytes written, or refusal 7 if the bytes are no index, and then 12. Bytes after the file stay, and all stay on a refusal.
+pub fn read(index: &[u8], out: &mut [u8]) -> Result<u32, Refusal>
     ensures { ReadGives index.now out.old result out.new }
 {
     let mut work = room();
-    match open(index, &mut work) {
-        Opening::NoIndex => answered(7, 0),
-        Opening::Index(o) => {
-            let len = 6 + o.m * 5;
-            if out.len() < len {
-                return answered(12, 0);
-            }
-            write_back(out, index, o.n, o.m);
-            answered(0, len as u32)
-        }
+    let Some(o) = open(index, &mut work) else {
+        return Err(Refusal::NoIndex);
+    };
+    let len = 6 + o.m * 5;
+    if out.len() < len {
+        return Err(Refusal::NoRoom);
     }
+    write_back(out, index, o.n, o.m);
+    Ok(len as u32)
 }

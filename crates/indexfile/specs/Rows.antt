@@ -1,7 +1,7 @@
 -- What the columns of a solved work space say as an index: 0 keys, 4 strengths, 8 groups of links; 9 joins, 10 their weights; 11 to 13 the groups' strengths,
 -- parents and least links. Assumes nothing.
 use Rattle.std.specs.Prelude.{◌≡◌, List, ◌++◌, map, ℕ, ◌+◌, ◌*◌, ◌/◌, ◌%◌, ◌≤◌, ◌<◌, length}
-use Rattle.std.proofs.Common.{sym, append_assoc, arith}
+use Rattle.std.proofs.Common.{sym, append_assoc}
 use Rattle.truss.specs.Lists.{range}
 use Rattle.truss.specs.Forest.{Join}
 use Rattle.truss.specs.Record.{kind_index_head, head_bytes, end_bytes}
@@ -55,28 +55,8 @@ pub record Writes (w : List ℕ) (m joins groups : ℕ) : Type 0 where
   pub weights : (q : ℕ) → q < joins → cell w m 10 q < 256
   pub group_strengths : (g : ℕ) → g < groups → cell w m 11 g < 256
 
--- the same for one part: so many entries, no more than links, and those of the strength's column are bytes
-pub record PartGiven (c m count : ℕ) (w : List ℕ) : Type 0 where
+-- what the writer of one record asks: there is such an entry, and that of the strength's column is a byte
+pub record CellGiven (c m i : ℕ) (w : List ℕ) : Type 0 where
   pub size : length w ≡ COLUMNS * m
-  pub few : m ≤ 65535
-  pub part : count ≤ m
-  pub small : (i : ℕ) → i < count → cell w m c i < 256
-
-abbrev pub LinkGiven : ℕ → ℕ → List ℕ → Type 0
-LinkGiven m count w = PartGiven 4 m count w
-
-abbrev pub JoinGiven : ℕ → ℕ → List ℕ → Type 0
-JoinGiven m count w = PartGiven 10 m count w
-
-abbrev pub GroupGiven : ℕ → ℕ → List ℕ → Type 0
-GroupGiven m count w = PartGiven 11 m count w
-
-module _ {w : List ℕ} {m joins groups : ℕ} (W : Writes w m joins groups) where
-  pub link-part : LinkGiven m m w
-  link-part = record { size = W.size; few = W.few; part = omega arith; small = W.strengths }
-
-  pub join-part : JoinGiven m joins w
-  join-part = record { size = W.size; few = W.few; part = W.few_joins; small = W.weights }
-
-  pub group_part : GroupGiven m groups w
-  group_part = record { size = W.size; few = W.few; part = W.few_groups; small = W.group_strengths }
+  pub below : i < m
+  pub small : cell w m c i < 256

@@ -1,11 +1,11 @@
 // The index's bytes: written from the columns of a solved work space, each part straight after the part before it, and compared with them record by record.
 #![tactic(auto)]
 
-ghost use Rattle.std.specs.Prelude.{◌≡◌, ◌+◌, ◌*◌, ◌<◌, ◌≤◌, length, take};
+ghost use Rattle.std.specs.Prelude.{◌≡◌, refl, ℕ, List, ◌+◌, ◌*◌, ◌<◌, ◌≤◌, length, take};
 ghost use Rattle.truss.specs.Index.{encode};
 ghost use Rattle.columns.specs.Columns.{cell, COLUMNS};
 ghost use Rattle.wire.specs.Writing.{Tells, up_to, written};
-ghost use Rattle.indexfile.specs.Rows.{GroupGiven, JoinGiven, LinkGiven, Writes, group_record, groups_from, index_in, join_record, link_record};
+ghost use Rattle.indexfile.specs.Rows.{CellGiven, Writes, group_record, groups_from, index_in, join_record, link_record};
 
 use columns::{
     GROUP_LEAST, GROUP_PARENT, GROUP_STRENGTH, HALF, JOIN_ENDS, JOIN_WEIGHT, KEY, OWN_GROUP,
@@ -32,145 +32,103 @@ pub fn groups_place(m: usize, joins: usize) -> usize
     5 + 8 * m + 6 * joins
 }
 
-// Link i as its record.
-fn link_in(w: &[u32], m: usize, i: usize) -> [u8; 8]
-    requires w_len { length w.now ≡ COLUMNS * m }
-    requires i_lt_m { i < m }
-    requires i_bound { cell w.now m 4 i < 256 }
-    ensures { result ≡ link_record w.now m i }
-{
-    let k = get(w, m, KEY, i);
-    let s = get(w, m, STRENGTH, i);
-    let g = get(w, m, OWN_GROUP, i);
-    link_record(k / HALF, k % HALF, s, g)
+// Records of N bytes each, made by number: which can be made, and what they are. A trait and no closure: the check takes no `Fn` bound that names a const parameter.
+trait Rows<const N: usize> {
+    ghost given: { Self → ℕ → Type 0 };
+
+    ghost rows: { Self → ℕ → List ℕ };
+
+    fn row(&self, i: usize) -> [u8; N]
+        requires { given self.now i }
+        ensures { result ≡ rows self.now i };
+
+    ghost long: { (x : Self) (i : ℕ) → length (rows x i) ≡ N };
 }
 
-// The links, at the front of what is lent.
-fn write_links(out: &mut [u8], w: &[u32], m: usize)
-    requires link_given { LinkGiven m m w.now }
-    requires m_in_bounds { m * 8 ≤ length out.old }
-    ensures { out.new ≡ written out.old 0 (up_to (link_record w.now m) m) }
+// Those that the columns of a work space hold.
+#[derive(Clone, Copy)]
+struct Links<'a> {
+    w: &'a [u32],
+    m: usize,
+}
+
+#[derive(Clone, Copy)]
+struct Joins<'a> {
+    w: &'a [u32],
+    m: usize,
+}
+
+#[derive(Clone, Copy)]
+struct Groups<'a> {
+    w: &'a [u32],
+    m: usize,
+}
+
+impl Rows<8> for Links<'_> {
+    ghost given = { λ s i. CellGiven 4 s.m i s.w.now };
+
+    ghost rows = { λ s i. link_record s.w.now s.m i };
+
+    fn row(&self, i: usize) -> [u8; 8] {
+        let k = get(self.w, self.m, KEY, i);
+        let s = get(self.w, self.m, STRENGTH, i);
+        let g = get(self.w, self.m, OWN_GROUP, i);
+        link_record(k / HALF, k % HALF, s, g)
+    }
+
+    ghost long = { λ x i. refl };
+}
+
+impl Rows<6> for Joins<'_> {
+    ghost given = { λ s i. CellGiven 10 s.m i s.w.now };
+
+    ghost rows = { λ s i. join_record s.w.now s.m i };
+
+    fn row(&self, i: usize) -> [u8; 6] {
+        let p = get(self.w, self.m, JOIN_ENDS, i);
+        let k = get(self.w, self.m, JOIN_WEIGHT, i);
+        join_record(p / HALF, p % HALF, k)
+    }
+
+    ghost long = { λ x i. refl };
+}
+
+impl Rows<6> for Groups<'_> {
+    ghost given = { λ s i. CellGiven 11 s.m i s.w.now };
+
+    ghost rows = { λ s i. group_record s.w.now s.m i };
+
+    fn row(&self, i: usize) -> [u8; 6] {
+        let k = get(self.w, self.m, GROUP_STRENGTH, i);
+        let p = get(self.w, self.m, GROUP_PARENT, i);
+        let e = get(self.w, self.m, GROUP_LEAST, i);
+        group_record(p, k, e)
+    }
+
+    ghost long = { λ x i. refl };
+}
+
+// The first `count` records, at the front of what is lent.
+fn write_rows<const N: usize, R: Rows<N>>(out: &mut [u8], count: usize, rows: &R)
+    requires given { (i : ℕ) → i < count → R.given rows.now i }
+    requires room { count * N ≤ length out.old }
+    ensures { out.new ≡ written out.old 0 (up_to (R.rows rows.now) count) }
 {
-    let mut i: usize = 0;
-    let mut at: usize = 0;
-    while i < m {
-        let rec = link_in(w, m, i);
-        paste(&mut out[at..], &rec);
-        at += 8;
-        i += 1;
+    for i in 0..count {
+        paste(&mut out[i * N..], &rows.row(i));
     }
 }
 
-// Whether the links stand at the front of the bytes.
-fn same_links(s: &[u8], w: &[u32], m: usize) -> bool
-    requires link_given { LinkGiven m m w.now }
-    requires m_in_bounds { m * 8 ≤ length s.now }
-    ensures { Tells result (take (m * 8) s.now ≡ up_to (link_record w.now m) m) }
+// Whether they stand at the front of the bytes.
+fn same_rows<const N: usize, R: Rows<N>>(s: &[u8], count: usize, rows: &R) -> bool
+    requires given { (i : ℕ) → i < count → R.given rows.now i }
+    requires room { count * N ≤ length s.now }
+    ensures { Tells result (take (count * N) s.now ≡ up_to (R.rows rows.now) count) }
 {
-    let mut i: usize = 0;
-    let mut at: usize = 0;
-    while i < m {
-        let rec = link_in(w, m, i);
-        if !stands(&s[at..], &rec) {
+    for i in 0..count {
+        if !stands(&s[i * N..], &rows.row(i)) {
             return false;
         }
-        at += 8;
-        i += 1;
-    }
-    true
-}
-
-// Join i as its record.
-fn join_in(w: &[u32], m: usize, i: usize) -> [u8; 6]
-    requires w_len { length w.now ≡ COLUMNS * m }
-    requires i_lt_m { i < m }
-    requires i_bound { cell w.now m 10 i < 256 }
-    ensures { result ≡ join_record w.now m i }
-{
-    let p = get(w, m, JOIN_ENDS, i);
-    let k = get(w, m, JOIN_WEIGHT, i);
-    join_record(p / HALF, p % HALF, k)
-}
-
-// The joins, at the front of what is lent.
-fn write_joins(out: &mut [u8], w: &[u32], m: usize, joins: usize)
-    requires join_given { JoinGiven m joins w.now }
-    requires joins_in_bounds { joins * 6 ≤ length out.old }
-    ensures { out.new ≡ written out.old 0 (up_to (join_record w.now m) joins) }
-{
-    let mut i: usize = 0;
-    let mut at: usize = 0;
-    while i < joins {
-        let rec = join_in(w, m, i);
-        paste(&mut out[at..], &rec);
-        at += 6;
-        i += 1;
-    }
-}
-
-// Whether the joins stand at the front of the bytes.
-fn same_joins(s: &[u8], w: &[u32], m: usize, joins: usize) -> bool
-    requires join_given { JoinGiven m joins w.now }
-    requires joins_in_bounds { joins * 6 ≤ length s.now }
-    ensures { Tells result (take (joins * 6) s.now ≡ up_to (join_record w.now m) joins) }
-{
-    let mut i: usize = 0;
-    let mut at: usize = 0;
-    while i < joins {
-        let rec = join_in(w, m, i);
-        if !stands(&s[at..], &rec) {
-            return false;
-        }
-        at += 6;
-        i += 1;
-    }
-    true
-}
-
-// Group i as its record.
-fn group_in(w: &[u32], m: usize, i: usize) -> [u8; 6]
-    requires w_len { length w.now ≡ COLUMNS * m }
-    requires i_lt_m { i < m }
-    requires i_bound { cell w.now m 11 i < 256 }
-    ensures { result ≡ group_record w.now m i }
-{
-    let k = get(w, m, GROUP_STRENGTH, i);
-    let p = get(w, m, GROUP_PARENT, i);
-    let e = get(w, m, GROUP_LEAST, i);
-    group_record(p, k, e)
-}
-
-// The groups, at the front of what is lent.
-fn write_groups(out: &mut [u8], w: &[u32], m: usize, groups: usize)
-    requires group_given { GroupGiven m groups w.now }
-    requires groups_in_bounds { groups * 6 ≤ length out.old }
-    ensures { out.new ≡ written out.old 0 (up_to (group_record w.now m) groups) }
-{
-    let mut i: usize = 0;
-    let mut at: usize = 0;
-    while i < groups {
-        let rec = group_in(w, m, i);
-        paste(&mut out[at..], &rec);
-        at += 6;
-        i += 1;
-    }
-}
-
-// Whether the groups stand at the front of the bytes.
-fn same_groups(s: &[u8], w: &[u32], m: usize, groups: usize) -> bool
-    requires group_given { GroupGiven m groups w.now }
-    requires groups_in_bounds { groups * 6 ≤ length s.now }
-    ensures { Tells result (take (groups * 6) s.now ≡ up_to (group_record w.now m) groups) }
-{
-    let mut i: usize = 0;
-    let mut at: usize = 0;
-    while i < groups {
-        let rec = group_in(w, m, i);
-        if !stands(&s[at..], &rec) {
-            return false;
-        }
-        at += 6;
-        i += 1;
     }
     true
 }
@@ -183,11 +141,11 @@ pub fn write_index(out: &mut [u8], w: &[u32], n: usize, m: usize, joins: usize, 
 {
     let head = head_record(INDEX_HEAD, n, m);
     paste(out, &head);
-    write_links(&mut out[5..], w, m);
+    write_rows(&mut out[5..], m, &Links { w, m });
     let a = 5 + m * 8;
-    write_joins(&mut out[a..], w, m, joins);
+    write_rows(&mut out[a..], joins, &Joins { w, m });
     let b = a + joins * 6;
-    write_groups(&mut out[b..], w, m, groups);
+    write_rows(&mut out[b..], groups, &Groups { w, m });
     let e = b + groups * 6;
     paste(&mut out[e..], &[END]);
 }
@@ -204,15 +162,15 @@ pub fn same_index(s: &[u8], w: &[u32], n: usize, m: usize, joins: usize, groups:
     if !stands(s, &head) {
         return false;
     }
-    if !same_links(&s[5..], w, m) {
+    if !same_rows(&s[5..], m, &Links { w, m }) {
         return false;
     }
     let a = 5 + m * 8;
-    if !same_joins(&s[a..], w, m, joins) {
+    if !same_rows(&s[a..], joins, &Joins { w, m }) {
         return false;
     }
     let b = a + joins * 6;
-    if !same_groups(&s[b..], w, m, groups) {
+    if !same_rows(&s[b..], groups, &Groups { w, m }) {
         return false;
     }
     let e = b + groups * 6;

@@ -1,2 +1,4 @@
 -- The strength type.
 pub mod Range
+-- The numbers of the refusals.
+pub mod Refusals

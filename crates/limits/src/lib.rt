@@ -7,6 +7,8 @@ ghost use Rattle.truss.specs.Limits.{desk_length, margin_length, max_accounts, m
 ghost use Rattle.truss.specs.Question.{bad_level};
 ghost use Rattle.limits.specs.Range.{strength_of};
 
+pub mod refusal;
+
 pub const MOST_ACCOUNTS: usize = 1024;
 
 pub const MOST_LINKS: usize = 2048;
@@ -45,29 +47,22 @@ pub const MARGIN_BYTES: usize = 8;
 #[derive(Clone, Copy)]
 pub struct Strength(usize);
 
-// What a number is as a strength.
-#[derive(Clone, Copy)]
-pub enum MaybeStrength {
-    Known(Strength),
-    OutOfRange,
-}
-
 impl Strength {
     pub const MIN: Strength = Strength(2);
 
     pub const MAX: Strength = Strength(64);
 
-    // The strength of that number, if it is one.
-    pub fn of(x: usize) -> MaybeStrength
+    // The strength of that number, if it is one. No `TryFrom`: a number is no strength in one way alone, so there is no error to name.
+    pub fn of(x: usize) -> Option<Strength>
         ensures { result ≡ strength_of x }
     {
         if x < Strength::MIN.0 {
-            return MaybeStrength::OutOfRange;
+            return None;
         }
         if Strength::MAX.0 < x {
-            return MaybeStrength::OutOfRange;
+            return None;
         }
-        MaybeStrength::Known(Strength(x))
+        Some(Strength(x))
     }
 
     pub fn number(self) -> usize

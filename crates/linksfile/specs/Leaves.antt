@@ -1,18 +1,21 @@
 -- What loading leaves in the work space: column 0 where there is no fault, and no other trace. Assumes nothing.
 use Rattle.std.proofs.Math.Path.{◌≡◌, refl, sym, ap}
-use Rattle.std.proofs.Common.{◌∙◌, inl, inr, ne_eqb}
-use Rattle.std.specs.Prelude.{◌⊎◌, ◌≢◌, List, [], ℕ, ◌*◌, ◌≤◌, ◌<◌, length}
+use Rattle.std.proofs.Common.{◌∙◌, inl, inr}
+use Rattle.std.specs.Prelude.{◌⊎◌, ◌≢◌, true, false, Result, Ok, Err, is_err, List, [], ℕ, ◌*◌, ◌≤◌, ◌<◌, length}
 use native.Mathlib.Omega.{arith}
 use Rattle.truss.specs.Graph.{Graph, Pair, graph_of}
-use Rattle.truss.specs.Refusal.{Checked, passed, refuse}
+use Rattle.truss.specs.Refusal.{Refusal, Checked, passed, refused}
 use Rattle.truss.specs.LinksFile.{accepted, read_pairs}
+use Rattle.laws.proofs.Lists.{true_not_false}
 use Rattle.laws.proofs.Numbers.{same_or_not}
+use Rattle.limits.specs.declared.refusal.Fault.{Fault}
+use Rattle.limits.specs.Refusals.{refusal_in, checked_in}
 use Rattle.columns.specs.Columns.{cell, store, COLUMNS}
 use Rattle.columns.specs.Laws.{kept_column, length-store}
 use Rattle.columns.specs.Named.{Named}
 use Rattle.columns.specs.Wiping.{Wiping}
 use Rattle.sorting.specs.Kept.{SortLeaves}
-use Rattle.linksfile.specs.Load.{fault_of, forget, LoadGives}
+use Rattle.linksfile.specs.Load.{forget, LoadGives}
 
 -- ---- the scan writes column 14 and no other
 
@@ -46,15 +49,29 @@ scan_leaves F S = record {
 -- ---- the whole: the walk's own outcome, the graph in column 0 where there is no fault and zeros where there is one, columns 1, 2, 3 and 14 at 0, and
 -- all others as they were
 
-pub record LoadClears (b : List ℕ) (n m number place : ℕ) (w w' : List ℕ) : Type 0 where
-  pub outcome : fault_of number place ≡ forget (read_pairs b n m 5 [])
-  pub no_place : number ≡ 0 → place ≡ 0
+pub record LoadClears (b : List ℕ) (n m : ℕ) (loaded : Checked (Unit {0})) (w w' : List ℕ) : Type 0 where
+  pub outcome : loaded ≡ forget (read_pairs b n m 5 [])
   pub named : (ps : List Pair) → read_pairs b n m 5 [] ≡ accepted n ps → Named (graph_of n ps) m n w'
   pub length_is : length w' ≡ COLUMNS * m
-  pub no_keys : number ≢ 0 → (y : ℕ) → y < m → cell w' m 0 y ≡ 0
+  pub no_keys : (r : Refusal) → loaded ≡ refused r → (y : ℕ) → y < m → cell w' m 0 y ≡ 0
   pub rows : (d y : ℕ) → 1 ≤ d → d < 4 → y < m → cell w' m d y ≡ 0
   pub file : (y : ℕ) → y < m → cell w' m 14 y ≡ 0
   pub others : (d y : ℕ) → 4 ≤ d → d ≢ 14 → y < m → cell w' m d y ≡ cell w m d y
+
+-- how a result went
+pub went_well : (r : Result (Unit {0}) Fault) → is_err r ≡ false → checked_in r ≡ passed tt
+unfolding checked_in
+went_well (Ok tt) q = refl
+went_well (Err f) q = absurd (true_not_false refl q)
+
+pub went_wrong : (r : Result (Unit {0}) Fault) → is_err r ≡ true → (x : Refusal) × (checked_in r ≡ refused x)
+unfolding checked_in
+went_wrong (Ok x) q = absurd (true_not_false q refl)
+went_wrong (Err f) q = (refusal_in f, refl)
+
+-- what passes is not refused
+not_both : {x : Checked (Unit {0})} {r : Refusal} → x ≡ refused r → x ≡ passed tt → ⊥
+not_both {x} {r} e h = let q : ◌≡◌ {A = Checked (Unit {0})} (refused r) (passed tt) = sym e ∙ h in let z : ◌≡◌ {A = ℕ} 0 1 = cc in omega arith
 
 named_same : {G : Graph} {m n : ℕ} {w w' : List ℕ} → length w' ≡ length w → ((i : ℕ) → i < m → cell w' m 0 i ≡ cell w m 0 i) → Named G m n w → Named G m n w'
 named_same l same N = record {
@@ -67,7 +84,7 @@ named_same l same N = record {
   key = λ i k. same i k ∙ N.key i k;
 }
 
-module _ {b : List ℕ} {n m number place : ℕ} {w w₁ w₂ w₃ : List ℕ} (L : LoadGives b n m number place w₁) (S : ScanLeaves m w w₁) (R : Wiping m 3 m w₁ w₂) (F : Wiping m 14 m w₂ w₃) where
+module _ {b : List ℕ} {n m : ℕ} {loaded : Checked (Unit {0})} {w w₁ w₂ w₃ : List ℕ} (L : LoadGives b n m loaded w₁) (S : ScanLeaves m w w₁) (R : Wiping m 3 m w₁ w₂) (F : Wiping m 14 m w₂ w₃) where
   rows_zero : (d y : ℕ) → 1 ≤ d → d < 4 → y < m → cell w₃ m d y ≡ 0
   rows_zero d y l h k = go (same_or_not d 3)
     where
@@ -78,34 +95,28 @@ module _ {b : List ℕ} {n m number place : ℕ} {w w₁ w₂ w₃ : List ℕ} (
   others_kept : (d y : ℕ) → 4 ≤ d → d ≢ 14 → y < m → cell w₃ m d y ≡ cell w m d y
   others_kept d y l ne k = F.others d y ne k ∙ R.others d y (omega arith) k ∙ S.others d y l ne k
 
-  pub load_good : number ≡ 0 → LoadClears b n m number place w w₃
+  pub load_good : loaded ≡ passed tt → LoadClears b n m loaded w w₃
   load_good z = record {
     outcome = L.outcome;
-    no_place = L.no_place;
     named = λ ps h. named_same (F.length_is ∙ R.length_is) (λ i k. F.others 0 i (omega arith) k ∙ R.others 0 i (omega arith) k) (L.named ps h);
     length_is = F.length_is ∙ R.length_is ∙ L.length_is;
-    no_keys = λ ne. absurd (ne z);
+    no_keys = λ r e. absurd (not_both e z);
     rows = rows_zero;
     file = F.zero;
     others = others_kept;
   }
 
   -- a fault names no graph
-  not_accepted : number ≢ 0 → (ps : List Pair) → read_pairs b n m 5 [] ≡ accepted n ps → ⊥
-  unfolding fault_of forget
-  not_accepted ne ps h =
-      let f : fault_of number place ≡ refuse number place = rw (ne_eqb number 0 ne) refl in
-      let e : ◌≡◌ {A = Checked (Unit {0})} (refuse number place) (passed tt) = sym f ∙ L.outcome ∙ ap forget h in
-      let z : ◌≡◌ {A = ℕ} 0 1 = cc in
-      omega arith
+  not_accepted : {r : Refusal} → loaded ≡ refused r → (ps : List Pair) → read_pairs b n m 5 [] ≡ accepted n ps → ⊥
+  unfolding forget
+  not_accepted e ps h = not_both e (L.outcome ∙ ap forget h)
 
-  pub load_bad : {w₄ : List ℕ} → number ≢ 0 → Wiping m 0 m w₃ w₄ → LoadClears b n m number place w w₄
-  load_bad {w₄} ne Z = record {
+  pub load_bad : {r : Refusal} {w₄ : List ℕ} → loaded ≡ refused r → Wiping m 0 m w₃ w₄ → LoadClears b n m loaded w w₄
+  load_bad {w₄ = w₄} e Z = record {
     outcome = L.outcome;
-    no_place = L.no_place;
-    named = λ ps h. absurd (not_accepted ne ps h);
+    named = λ ps h. absurd (not_accepted e ps h);
     length_is = Z.length_is ∙ F.length_is ∙ R.length_is ∙ L.length_is;
-    no_keys = λ _. Z.zero;
+    no_keys = λ _ _. Z.zero;
     rows = λ d y l h k. Z.others d y (omega arith) k ∙ rows_zero d y l h k;
     file = λ y k. Z.others 14 y (omega arith) k ∙ F.zero y k;
     others = λ d y l q k. Z.others d y (omega arith) k ∙ others_kept d y l q k;

@@ -1,11 +1,11 @@
 -- A links file whose head is good, loaded: what the scan of its records finds, and what is known after the sort. Assumes nothing.
-use Rattle.std.specs.Prelude.{◌≡◌, refl, ◌⊎◌, ◌≢◌, cond, List, [], ℕ, ◌*◌, ◌≤◌, ◌<◌, eqb, length}
-use Rattle.std.proofs.Common.{sym, ap, ◌∙◌, inl, inr, arith, eq-eqb, ne_eqb}
+use Rattle.std.specs.Prelude.{◌≡◌, refl, ◌⊎◌, ◌≢◌, List, [], ℕ, ◌*◌, ◌≤◌, ◌<◌, length}
+use Rattle.std.proofs.Common.{sym, ap, ◌∙◌, inl, inr, arith}
 use Rattle.std.proofs.Math.Path.{subst}
 use mathlib.Core.List.Memᴰ.{not-nil as in-nil}
 use Rattle.truss.specs.Limits.{max_accounts, max_links}
 use Rattle.truss.specs.Graph.{Pair, link_of, graph_of}
-use Rattle.truss.specs.Refusal.{Checked, passed, refused, refuse}
+use Rattle.truss.specs.Refusal.{Refusal, Checked, passed, refused, refuse}
 use Rattle.truss.specs.Record.{kind_head}
 use Rattle.truss.specs.LinksFile.{Links, accepted, read_head, read_pairs}
 use Rattle.laws.proofs.Numbers.{same_or_not}
@@ -18,30 +18,22 @@ use Rattle.sorting.specs.Gives.{SortAsks}
 use Rattle.linksfile.specs.Records.{key_of, place_of, pair_at, record_at, end_at, Good, Sound, sound, pairs_to, pairs_length, pairs_in_lem, in_pairs, walk_repeat, walk_fault, walk_end_fault, walk-done}
 use Rattle.linksfile.specs.SortedLinks.{Row, row_named}
 
--- a number of 0 for no fault, else a refusal
-unfoldable pub fault_of : ℕ → ℕ → Checked (Unit {0})
-fault_of number place = cond (eqb number 0) (passed tt) (refuse number place)
-
+-- whether checks pass, whatever they let pass
 unfoldable pub forget : {A : Type 0} → Checked A → Checked (Unit {0})
 forget (passed x) = passed tt
 forget (refused r) = refused r
 
--- the end's checks: number and place are 0 for no fault
-pub data Ended (b : List ℕ) (at number place : ℕ) : Type 0 where
-  fault : number ≢ 0 → end_at b at ≡ refuse number place → Ended b at number place
-  good : number ≡ 0 → place ≡ 0 → end_at b at ≡ passed tt → Ended b at number place
+-- what a scan finds after so many records: the next one's own fault, or what the end gives
+pub data Stop (b : List ℕ) (n m count : ℕ) (rest : Checked (Unit {0})) : Type 0 where
+  at_record : (r : Refusal) → count < m → record_at b n (place_of count) ≡ refused r → rest ≡ refused r → Stop b n m count rest
+  at_end : count ≡ m → rest ≡ end_at b (place_of m) → Stop b n m count rest
 
--- what stopped a scan after so many records: the next one's own fault, or the end
-pub data Stop (b : List ℕ) (n m count number place : ℕ) : Type 0 where
-  at_record : count < m → number ≢ 0 → record_at b n (place_of count) ≡ refuse number place → Stop b n m count number place
-  at_end : count ≡ m → Ended b (place_of m) number place → Stop b n m count number place
-
--- the scan: the keys of the first records, as far as none has a fault by itself, and what stopped it
-pub record Scanned (b : List ℕ) (n m count number place : ℕ) (w : List ℕ) : Type 0 where
+-- the scan: the keys of the first records, as far as none has a fault by itself, and what it found after them
+pub record Scanned (b : List ℕ) (n m count : ℕ) (rest : Checked (Unit {0})) (w : List ℕ) : Type 0 where
   pub part : count ≤ m
   pub size : length w ≡ COLUMNS * m
   pub keys : Good b n (cell w m 14) count
-  pub stop : Stop b n m count number place
+  pub stop : Stop b n m count rest
 
 -- what the scan asks of the work space
 pub record ScanAsks (m n : ℕ) (w : List ℕ) : Type 0 where
@@ -55,13 +47,12 @@ pub record LoadAsks (b : List ℕ) (n m : ℕ) (w : List ℕ) : Type 0 where
   pub size : length w ≡ COLUMNS * m
 
 -- what loading gives: the walk's own outcome, and the graph in column 0 where there is no fault
-pub record LoadGives (b : List ℕ) (n m number place : ℕ) (w : List ℕ) : Type 0 where
-  pub outcome : fault_of number place ≡ forget (read_pairs b n m 5 [])
-  pub no_place : number ≡ 0 → place ≡ 0
+pub record LoadGives (b : List ℕ) (n m : ℕ) (loaded : Checked (Unit {0})) (w : List ℕ) : Type 0 where
+  pub outcome : loaded ≡ forget (read_pairs b n m 5 [])
   pub named : (ps : List Pair) → read_pairs b n m 5 [] ≡ accepted n ps → Named (graph_of n ps) m n w
   pub length_is : length w ≡ COLUMNS * m
 
-module _ {b : List ℕ} {n m count number place : ℕ} {w₀ w₁ : List ℕ} (P : LoadAsks b n m w₀) (S : Scanned b n m count number place w₁) where
+module _ {b : List ℕ} {n m count : ℕ} {rest : Checked (Unit {0})} {w₀ w₁ : List ℕ} (P : LoadAsks b n m w₀) (S : Scanned b n m count rest w₁) where
   H : GoodHead b (record { n = n; m = m })
   H = head_good kind_head b (record { n = n; m = m }) P.head
 
@@ -105,101 +96,105 @@ module _ {b : List ℕ} {n m count number place : ℕ} {w₀ w₁ : List ℕ} (P
     small = omega (arith, accounts_few)
 
     -- a refusal names no graph
-    none_named : {k p : ℕ} → read_pairs b n m 5 [] ≡ refuse k p → (ps : List Pair) → read_pairs b n m 5 [] ≡ accepted n ps → Named (graph_of n ps) m n w₂
+    none_named : {r : Refusal} → read_pairs b n m 5 [] ≡ refused r → (ps : List Pair) → read_pairs b n m 5 [] ≡ accepted n ps → Named (graph_of n ps) m n w₂
     none_named h ps q = let z : ◌≡◌ {A = ℕ} 0 1 = cc in absurd (omega arith)
 
-    refusal : (k p : ℕ) → k ≢ 0 → read_pairs b n m 5 [] ≡ refuse k p → LoadGives b n m k p w₂
-    unfolding fault_of forget
-    refusal k p ne h = record { outcome = rw (ne_eqb k 0 ne, h) refl; no_place = λ z. absurd (ne z); named = none_named h; length_is = size₂ }
+    refusal : (r : Refusal) → read_pairs b n m 5 [] ≡ refused r → LoadGives b n m (refused r) w₂
+    unfolding forget
+    refusal r h = record { outcome = rw h refl; named = none_named h; length_is = size₂ }
 
     -- a repeat
-    pub load_repeat : best < count → LoadGives b n m 6 (place_of best) w₂
+    pub load_repeat : best < count → LoadGives b n m (refuse 6 (place_of best)) w₂
     unfolding κ
     load_repeat l =
         let r = T.repeat.repeats l in
-        refusal 6 (place_of best) (omega arith)
+        refusal (record { number = 6; place = place_of best })
         (walk_repeat b n m κ small best (omega (arith, S.part)) (λ j k. S.keys j (omega arith)) T.repeat.first r.0 r.1 r.2)
 
     no_repeat : count ≤ best → NoRepeat κ count
     unfolding κ
     no_repeat l j r p q = T.repeat.first j r p (omega (arith, l))
 
-    -- no repeat: the scan's own fault, or the graph
-    pub load_scan : count ≤ best → LoadGives b n m number place w₂
-    unfolding κ fault_of forget
-    load_scan l = go S.stop
+    -- no repeat, and all records good: what the end gives
+    ended : count ≤ best → count ≡ m → (e : Checked (Unit {0})) → end_at b (place_of m) ≡ e → LoadGives b n m e w₂
+    unfolding κ forget
+    ended l c (refused r) e = refusal r (walk_end_fault b n m κ small r.number r.place all_good all_new e)
       where
-        go : Stop b n m count number place → LoadGives b n m number place w₂
-        go (at_record c ne e) = refusal number place ne (walk_fault b n m κ small count number place c S.keys (no_repeat l) e)
-        go (at_end c (fault ne e)) = refusal number place ne (walk_end_fault b n m κ small number place all_good all_new e)
-          where
-            all_good : Good b n κ m
-            all_good = subst (Good b n κ) c S.keys
+        all_good : Good b n κ m
+        all_good = subst (Good b n κ) c S.keys
 
-            all_new : NoRepeat κ m
-            all_new = subst (NoRepeat κ) c (no_repeat l)
-        go (at_end c (good z p e)) = record {
-          outcome = rw (eq-eqb number 0 z, done) refl;
-          no_place = λ _. p;
-          named = λ ps h. let q : accepted n (pairs_to b m) ≡ accepted n ps = sym done ∙ h in subst (λ (xs : List Pair). Named (graph_of n xs) m n w₂) (pairs_same q) name;
-          length_is = size₂;
+        all_new : NoRepeat κ m
+        all_new = subst (NoRepeat κ) c (no_repeat l)
+    ended l c (passed tt) e = record {
+      outcome = rw done refl;
+      named = λ ps h. let q : accepted n (pairs_to b m) ≡ accepted n ps = sym done ∙ h in subst (λ (xs : List Pair). Named (graph_of n xs) m n w₂) (pairs_same q) name;
+      length_is = size₂;
+    }
+      where
+        all_good : Good b n κ m
+        all_good = subst (Good b n κ) c S.keys
+
+        all_new : NoRepeat κ m
+        all_new = subst (NoRepeat κ) c (no_repeat l)
+
+        done : read_pairs b n m 5 [] ≡ accepted n (pairs_to b m)
+        done = walk-done b n m κ small all_good all_new e
+
+        pairs_same : {ps : List Pair} → accepted n (pairs_to b m) ≡ accepted n ps → pairs_to b m ≡ ps
+        pairs_same {ps} q = let r : ◌≡◌ {A = Links} (record { n = n; pairs = pairs_to b m }) (record { n = n; pairs = ps }) = cc in ap (λ (x : Links). x.pairs) r
+
+        π : ℕ → ℕ
+        π = cell w₂ m 3
+
+        row : Row n m (pairs_to b m) (λ i. κ (π i))
+        row = record {
+          count = pairs_length b m;
+          good = (read_good b n m 5 [] (record { fit = λ p k. absurd (in-nil k); distinct = tt }) n (pairs_to b m) done).1;
+          small = accounts_few;
+          rises = λ i j p q. rises i j p (omega (arith, c)) (omega (arith, c, q));
+          only = λ i k. (pair_at b (π i), in_pairs b m (π i) (below i (omega (arith, c, k))), (at (π i) (omega (arith, c, below i (omega (arith, c, k))))).key_is);
+          each = λ p mp. found p (pairs_in_lem b m mp);
         }
           where
-            all_good : Good b n κ m
-            all_good = subst (Good b n κ) c S.keys
+            R : Rattle.sorting.specs.Order.Row κ count (n * 4294967296) count π
+            R = T.taken.sorted.row
 
-            all_new : NoRepeat κ m
-            all_new = subst (NoRepeat κ) c (no_repeat l)
+            below : (i : ℕ) → i < count → π i < m
+            below i k = omega (arith, c, R.small i k)
 
-            done : read_pairs b n m 5 [] ≡ accepted n (pairs_to b m)
-            done = walk-done b n m κ small all_good all_new e
-
-            pairs_same : {ps : List Pair} → accepted n (pairs_to b m) ≡ accepted n ps → pairs_to b m ≡ ps
-            pairs_same {ps} q = let r : ◌≡◌ {A = Links} (record { n = n; pairs = pairs_to b m }) (record { n = n; pairs = ps }) = cc in ap (λ (x : Links). x.pairs) r
-
-            π : ℕ → ℕ
-            π = cell w₂ m 3
-
-            row : Row n m (pairs_to b m) (λ i. κ (π i))
-            row = record {
-              count = pairs_length b m;
-              good = (read_good b n m 5 [] (record { fit = λ p k. absurd (in-nil k); distinct = tt }) n (pairs_to b m) done).1;
-              small = accounts_few;
-              rises = λ i j p q. rises i j p (omega (arith, c)) (omega (arith, c, q));
-              only = λ i k. (pair_at b (π i), in_pairs b m (π i) (below i (omega (arith, c, k))), (at (π i) (omega (arith, c, below i (omega (arith, c, k))))).key_is);
-              each = λ p mp. found p (pairs_in_lem b m mp);
-            }
+            rises : (i j : ℕ) → i < j → m ≤ count → j < count → κ (π i) < κ (π j)
+            rises i j p f q = strict (same_or_not (κ (π i)) (κ (π j)))
               where
-                R : Rattle.sorting.specs.Order.Row κ count (n * 4294967296) count π
-                R = T.taken.sorted.row
+                up : spot κ (π i) < spot κ (π j)
+                up = R.rises i j p q
 
-                below : (i : ℕ) → i < count → π i < m
-                below i k = omega (arith, c, R.small i k)
+                strict : (κ (π i) ≡ κ (π j)) ⊎ (κ (π i) ≢ κ (π j)) → κ (π i) < κ (π j)
+                strict (inl x) = absurd (all_new (π i) (π j) (omega (arith, up, x)) (below j q) x)
+                strict (inr x) = omega (arith, up, x, R.small i (omega arith), R.small j q, load_few, S.part)
 
-                rises : (i j : ℕ) → i < j → m ≤ count → j < count → κ (π i) < κ (π j)
-                rises i j p f q = strict (same_or_not (κ (π i)) (κ (π j)))
-                  where
-                    up : spot κ (π i) < spot κ (π j)
-                    up = R.rises i j p q
+            found : (p : Pair) → (j : ℕ) × (j < m) × (p ≡ pair_at b j) → (i : ℕ) × (i < m) × (κ (π i) ≡ key_of (link_of p))
+            found p (j, lj, x) = row_at_lem (R.all j (omega (arith, c, lj)) top)
+              where
+                s : Sound b n j (κ j)
+                s = at j (omega (arith, c, lj))
 
-                    strict : (κ (π i) ≡ κ (π j)) ⊎ (κ (π i) ≢ κ (π j)) → κ (π i) < κ (π j)
-                    strict (inl x) = absurd (all_new (π i) (π j) (omega (arith, up, x)) (below j q) x)
-                    strict (inr x) = omega (arith, up, x, R.small i (omega arith), R.small j q, load_few, S.part)
+                top : spot κ j < n * 4294967296
+                top = omega (arith, s.key_is, s.first_below, s.second_below, accounts_few, lj, load_few)
 
-                found : (p : Pair) → (j : ℕ) × (j < m) × (p ≡ pair_at b j) → (i : ℕ) × (i < m) × (κ (π i) ≡ key_of (link_of p))
-                found p (j, lj, x) = row_at_lem (R.all j (omega (arith, c, lj)) top)
-                  where
-                    s : Sound b n j (κ j)
-                    s = at j (omega (arith, c, lj))
+                row_at_lem : (i : ℕ) × (i < count) × (π i ≡ j) → (i : ℕ) × (i < m) × (κ (π i) ≡ key_of (link_of p))
+                row_at_lem (i, li, y) = (i, omega (arith, c, li), ap κ y ∙ s.key_is ∙ ap (λ (z : Pair). key_of (link_of z)) (sym x))
 
-                    top : spot κ j < n * 4294967296
-                    top = omega (arith, s.key_is, s.first_below, s.second_below, accounts_few, lj, load_few)
+        name : Named (graph_of n (pairs_to b m)) m n w₂
+        name = row_named row (omega (arith, load_few)) size₂ (λ i k. T.taken.keys i (omega (arith, c, k)))
 
-                    row_at_lem : (i : ℕ) × (i < count) × (π i ≡ j) → (i : ℕ) × (i < m) × (κ (π i) ≡ key_of (link_of p))
-                    row_at_lem (i, li, y) = (i, omega (arith, c, li), ap κ y ∙ s.key_is ∙ ap (λ (z : Pair). key_of (link_of z)) (sym x))
-
-            name : Named (graph_of n (pairs_to b m)) m n w₂
-            name = row_named row (omega (arith, load_few)) size₂ (λ i k. T.taken.keys i (omega (arith, c, k)))
+    -- no repeat: the scan's own fault, or the graph
+    pub load_scan : count ≤ best → LoadGives b n m rest w₂
+    unfolding κ
+    load_scan l = go S.stop
+      where
+        go : Stop b n m count rest → LoadGives b n m rest w₂
+        go (at_record r c e f) = rw f (refusal r (walk_fault b n m κ small count r.number r.place c S.keys (no_repeat l) e))
+        go (at_end c f) = rw f (ended l c (end_at b (place_of m)) refl)
 
 pub scan_asks : {b : List ℕ} {n m : ℕ} {w : List ℕ} → LoadAsks b n m w → ScanAsks m n w
 scan_asks {b} {n} {m} P =

@@ -7,65 +7,52 @@ ghost use Rattle.truss.specs.Record.{body_length};
 ghost use Rattle.truss.specs.Graph.{link};
 ghost use Rattle.truss.specs.LinksFile.{read_head};
 ghost use Rattle.wire.specs.Wire.{place_bound};
-ghost use Rattle.linksfile.specs.Records.{key_of, record_at};
-ghost use Rattle.linksfile.specs.Load.{Ended, ScanAsks, Scanned, LoadAsks, LoadGives};
+ghost use Rattle.limits.specs.Refusals.{checked_in};
+ghost use Rattle.linksfile.specs.Records.{end_at, key_of, record_at};
+ghost use Rattle.linksfile.specs.Load.{ScanAsks, Scanned, LoadAsks, LoadGives};
 ghost use Rattle.linksfile.specs.Leaves.{FileOnly, ScanLeaves, LoadClears};
 ghost use Rattle.linksfile.specs.Answers.{head_of, plain_of};
 
 use columns::{HALF, KEY, put, wipe};
+use limits::refusal::{Fault, Refusal};
 use limits::{MOST_ACCOUNTS, MOST_LINKS};
 use sorting::{FILE, ROW, sort};
 use wire::{END, PLAIN_LINK, field_at, whole_record};
 
-// The head's answer: accounts and links, or the number of a refusal at place 0.
+// What a head says: how many accounts and links.
 #[derive(Clone, Copy)]
-pub enum FileHead {
-    Good { n: usize, m: usize },
-    Refused(u32),
+pub struct Head {
+    pub n: usize,
+    pub m: usize,
 }
 
-// One plain link record: its key, or the number of the fault that it has by itself.
+// How many records have no fault by themselves, and what the scan found after them.
 #[derive(Clone, Copy)]
-pub enum Plain {
-    Key(usize),
-    Fault(u32),
-}
-
-// A refusal's number, 0 for none, and place.
-#[derive(Clone, Copy)]
-pub struct Found {
-    pub number: u32,
-    pub place: u32,
-}
-
-// How many records have no fault by themselves, and what stopped the scan after them.
-#[derive(Clone, Copy)]
-pub struct Stopped {
-    pub count: usize,
-    pub number: u32,
-    pub place: u32,
+struct Stopped {
+    count: usize,
+    rest: Result<(), Fault>,
 }
 
 // The checks of a head, of the kind with which the file begins: 1, 2, 3.
-pub fn read_head(s: &[u8], kind: u8) -> FileHead
+pub fn read_head(s: &[u8], kind: u8) -> Result<Head, Refusal>
     requires { body_length kind ≡ some 4 }
     ensures { head_of result ≡ read_head kind s.now }
 {
     if !whole_record(s, 0, kind) {
-        return FileHead::Refused(1);
+        return Err(Refusal::Record);
     }
     let n = field_at(s, 1);
     if n == 0 {
-        return FileHead::Refused(2);
+        return Err(Refusal::Accounts);
     }
     if MOST_ACCOUNTS < n {
-        return FileHead::Refused(2);
+        return Err(Refusal::Accounts);
     }
     let m = field_at(s, 3);
     if MOST_LINKS < m {
-        return FileHead::Refused(3);
+        return Err(Refusal::Links);
     }
-    FileHead::Good { n, m }
+    Ok(Head { n, m })
 }
 
 // A pair as one number, the lower account first.
@@ -77,113 +64,103 @@ pub fn key_of(a: usize, b: usize) -> usize
     if a < b { a * HALF + b } else { b * HALF + a }
 }
 
-// One record's own checks: 1, 4, 5.
-fn read_link(s: &[u8], at: usize, n: usize) -> Plain
+// The key of one record's link, or the refusal that the record meets by itself: 1, 4, 5.
+fn read_link(s: &[u8], at: usize, n: usize) -> Result<usize, Refusal>
     requires { at < place_bound }
     ensures { plain_of result at ≡ record_at s.now n at }
 {
     if !whole_record(s, at, PLAIN_LINK) {
-        return Plain::Fault(1);
+        return Err(Refusal::Record);
     }
     let a = field_at(s, at + 1);
     let b = field_at(s, at + 3);
     if n <= a {
-        return Plain::Fault(4);
+        return Err(Refusal::Beyond);
     }
     if n <= b {
-        return Plain::Fault(4);
+        return Err(Refusal::Beyond);
     }
     if a == b {
-        return Plain::Fault(5);
+        return Err(Refusal::EqualEnds);
     }
-    Plain::Key(key_of(a, b))
+    Ok(key_of(a, b))
 }
 
 // The end record and nothing after it.
-fn ending(s: &[u8], at: usize) -> Found
+fn ending(s: &[u8], at: usize) -> Result<(), Fault>
     requires { at < place_bound }
-    ensures { Ended s.now at result.number result.place }
+    ensures { checked_in result ≡ end_at s.now at }
 {
     if !whole_record(s, at, END) {
-        return Found {
-            number: 1,
+        return Err(Fault {
+            refusal: Refusal::Record,
             place: at as u32,
-        };
+        });
     }
     if at + 1 != s.len() {
-        return Found {
-            number: 1,
+        return Err(Fault {
+            refusal: Refusal::Record,
             place: (at + 1) as u32,
-        };
+        });
     }
-    Found {
-        number: 0,
-        place: 0,
-    }
+    Ok(())
 }
 
 // The keys of the records in file order, up to the first that has a fault by itself.
 fn scan(s: &[u8], n: usize, m: usize, w: &mut [u32]) -> Stopped
     requires { ScanAsks m n w.old }
-    ensures scanned { Scanned s.now n m result.count result.number result.place w.new }
+    ensures scanned { Scanned s.now n m result.count (checked_in result.rest) w.new }
     ensures file_only { FileOnly m w.old w.new }
 {
-    let mut i: usize = 0;
-    while i < m {
+    for i in 0..m {
         let at = 5 + 5 * i;
         match read_link(s, at, n) {
-            Plain::Key(k) => put(w, m, FILE, i, k),
-            Plain::Fault(number) => {
+            Ok(k) => put(w, m, FILE, i, k),
+            Err(refusal) => {
                 return Stopped {
                     count: i,
-                    number,
-                    place: at as u32,
+                    rest: Err(Fault {
+                        refusal,
+                        place: at as u32,
+                    }),
                 };
             }
         }
-        i += 1;
     }
-    let e = ending(s, 5 + 5 * m);
     Stopped {
         count: m,
-        number: e.number,
-        place: e.place,
+        rest: ending(s, 5 + 5 * m),
     }
 }
 
 // The first fault of 1, 4, 5, 6 in file order, or the keys, sorted, in column KEY.
-fn scan_sorted(s: &[u8], n: usize, m: usize, w: &mut [u32]) -> Found
+fn scan_sorted(s: &[u8], n: usize, m: usize, w: &mut [u32]) -> Result<(), Fault>
     requires { LoadAsks s.now n m w.old }
-    ensures load_gives { LoadGives s.now n m result.number result.place w.new }
+    ensures load_gives { LoadGives s.now n m (checked_in result) w.new }
     ensures scan_leaves { ScanLeaves m w.old w.new }
 {
-    let f = scan(s, n, m, w);
-    let t = f.count;
-    let best = sort(w, m, n, t);
-    if best < t {
-        return Found {
-            number: 6,
+    let stopped = scan(s, n, m, w);
+    let best = sort(w, m, n, stopped.count);
+    if best < stopped.count {
+        return Err(Fault {
+            refusal: Refusal::Repeated,
             place: (5 + 5 * best) as u32,
-        };
+        });
     }
-    Found {
-        number: f.number,
-        place: f.place,
-    }
+    stopped.rest
 }
 
 // The records of a file whose head is good: the first fault of 1, 4, 5, 6 in file order, or the keys, sorted, in column KEY, which is 0 where there is a
 // fault. The columns that the sort uses are 0 afterwards, and all others stay.
-pub fn load(s: &[u8], n: usize, m: usize, w: &mut [u32]) -> Found
+pub fn load(s: &[u8], n: usize, m: usize, w: &mut [u32]) -> Result<(), Fault>
     requires { LoadAsks s.now n m w.old }
-    ensures { LoadClears s.now n m result.number result.place w.old w.new }
+    ensures { LoadClears s.now n m (checked_in result) w.old w.new }
 {
-    let f = scan_sorted(s, n, m, w);
+    let loaded = scan_sorted(s, n, m, w);
     wipe(w, m, ROW);
     wipe(w, m, FILE);
-    if f.number == 0 {
-        return f;
+    if loaded.is_err() {
+        wipe(w, m, KEY);
     }
-    wipe(w, m, KEY);
-    f
+    loaded
 }

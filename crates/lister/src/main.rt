@@ -30,16 +30,17 @@ fn write_row<W: Write + Drop>(out: &mut W, group: usize, row: &[u32]) -> io::Res
 
 // The answer to an index: its groups, or the refusal's line.
 fn answer<W: Write + Drop>(out: &mut W, index: &[u8], numbers: &mut [u32]) -> io::Result<()> {
-    let r = rows(index, numbers);
-    if r.refusal != 0 {
-        return writeln!(out, "refused {}", r.refusal);
+    match rows(index, numbers) {
+        Err(refusal) => writeln!(out, "refused {}", refusal.number()),
+        Ok(written) => {
+            let groups = (written / 6) as usize;
+            writeln!(out, "groups {groups}")?;
+            for (group, row) in numbers.chunks(6).take(groups).enumerate() {
+                write_row(out, group, row)?;
+            }
+            Ok(())
+        }
     }
-    let groups = (r.value / 6) as usize;
-    writeln!(out, "groups {groups}")?;
-    for (group, row) in numbers.chunks(6).take(groups).enumerate() {
-        write_row(out, group, row)?;
-    }
-    Ok(())
 }
 
 fn main(rt: HostRuntime) -> io::Result<()> {

@@ -1,22 +1,21 @@
 -- The groups at k as a row of numbers, and their margins, as numbers and as bytes. Assumes nothing.
-use Rattle.std.specs.Prelude.{◌≡◌, ◌⊎◌, ◌≢◌, true, false, cond, List, [], ◌∷◌, ◌++◌, map, ℕ, suc, ◌+◌, ◌*◌, ◌-◌, ◌^◌, ◌≤◌, ◌<◌, T, length, get_or, set, ℤ, pos, ◌-ℤ◌}
-use Rattle.std.proofs.Math.Path.{refl, sym, ap, subst}
-use Rattle.std.proofs.Common.{◌∙◌, inl, inr, append-nil, zero-add, not-suc-le-zero, arith, length-append, Fits, SFits, to_z, of_z, to_z-of_z, eq-eqb, ne_eqb, ltb-true, le-ltb}
+use Rattle.std.specs.Prelude.{◌≡◌, ◌⊎◌, ◌≢◌, cond, List, [], ◌∷◌, ◌++◌, map, ℕ, ◌+◌, ◌*◌, ◌-◌, ◌/◌, ◌%◌, ◌≤◌, ◌<◌, length, get_or, set, ℤ, pos, ◌-ℤ◌}
+use Rattle.std.proofs.Math.Path.{refl, sym, ap}
+use Rattle.std.proofs.Common.{◌∙◌, inl, inr, append-nil, zero-add, arith, length-append, SFits, to_z, of_z, to_z-of_z, eq-eqb, ne_eqb}
 use Rattle.std.proofs.Math.Numerals.{add-one}
 use Rattle.std.proofs.Math.Dec.{eqb}
 use Rattle.std.proofs.Math.ListN.{length-map, get_or-append}
 use Rattle.std.proofs.lemmas.List.{get_or_at}
-use Rattle.std.proofs.Math.IntN.{negsuc, nat_abs}
-use Rattle.std.specs.Int.Signed.{lt_z, mag, non_neg}
-use Rattle.std.specs.Int.{w64}
+use Rattle.std.proofs.Math.IntN.{negsuc}
+use Rattle.std.specs.Int.Signed.{mag}
+use Rattle.std.specs.Int.{w64, to_be_bytes}
 use Rattle.std.proofs.Math.Facts.{to_z_pos}
 use borrow.Author.Rules.{sfits_of}
 use Rattle.truss.specs.Limits.{margin_length}
 use Rattle.truss.specs.Lists.{filter, range, concat_map}
 use Rattle.truss.specs.Call.{overwrite}
-use Rattle.truss.specs.Bets.{max_word, complement, margin_bytes}
+use Rattle.truss.specs.Bets.{wide_field, complement, margin_bytes}
 use Rattle.laws.proofs.Numbers.{same_or_not}
-use Rattle.laws.proofs.Lists.{true_not_false}
 use Rattle.laws.proofs.Bets.{margin_mag}
 use Rattle.laws.proofs.Members.{range_last, range_length, filter_last, map_last, concat_map_last}
 use Rattle.columns.specs.Columns.{cell, store, COLUMNS, link_bound, entry_bound}
@@ -49,63 +48,23 @@ margin_told {z} {limit} {sum} q l s =
 pub told_back : {z : ℤ} → mag z < entry_bound → to_z w64 (of_z w64 z) ≡ z
 told_back l = read_back (sfits_of (omega arith))
 
--- two's complement, of a margin below zero
-from_minus_one : (x : ℕ) → negsuc 0 -ℤ negsuc x ≡ pos x
-from_minus_one x = rw (le-ltb (suc x) 1 (omega arith)) (ap pos (omega arith))
+-- as bytes, high byte first, of its two's complement
+word_bytes : (x : ℕ) → to_be_bytes w64 x ≡ wide_field (x / 0x1_0000_0000) ++ wide_field x
+word_bytes x =
+    let e7 : x / 72057594037927936 % 256 ≡ x / 4294967296 / 65536 / 256 % 256 = omega arith in
+    let e6 : x / 281474976710656 % 256 ≡ x / 4294967296 / 65536 % 256 = omega arith in
+    let e5 : x / 1099511627776 % 256 ≡ x / 4294967296 / 256 % 256 = omega arith in
+    let e3 : x / 16777216 % 256 ≡ x / 65536 / 256 % 256 = omega arith in
+    λ i. e7 i ∷ e6 i ∷ e5 i ∷ x / 4294967296 % 256 ∷ e3 i ∷ x / 65536 % 256 ∷ x / 256 % 256 ∷ x % 256 ∷ []
 
-module _ {z : ℤ} (f : SFits w64 z) (t : lt_z (to_z w64 (of_z w64 z)) (pos 0) ≡ true) where
-  -- it is −(x + 1)
-  below : (x : ℕ) × (z ≡ negsuc x)
-  below = go z (rw (read_back f) at t)
-    where
-      go : (y : ℤ) → lt_z y (pos 0) ≡ true → (x : ℕ) × (y ≡ negsuc x)
-      go (pos x) h = absurd (not-suc-le-zero (ltb-true x 0 h))
-      go (negsuc x) h = (x, refl)
+cast_is : (z : ℤ) → of_z w64 z ≡ complement z
+unfolding complement
+cast_is (pos x) = refl
+cast_is (negsuc x) = omega arith
 
-  -- and x is read off
-  turned : negsuc 0 -ℤ to_z w64 (of_z w64 z) ≡ pos below.0
-  unfolding below
-  turned = rw (read_back f) (ap (λ (y : ℤ). negsuc 0 -ℤ y) below.1 ∙ from_minus_one below.0)
-
-  small : below.0 < 2 ^ 63
-  unfolding below
-  small = subst (λ (y : ℤ). mag y < 2 ^ 63) below.1 f.sfits
-
-  pub turned_fits : SFits w64 (negsuc 0 -ℤ to_z w64 (of_z w64 z))
-  turned_fits = rw turned (sfits_of (omega (arith, small)))
-
-  turned_back : to_z w64 (of_z w64 (negsuc 0 -ℤ to_z w64 (of_z w64 z))) ≡ pos below.0
-  turned_back = read_back turned_fits ∙ turned
-
-  pub turned_cast : T (non_neg (to_z w64 (of_z w64 (negsuc 0 -ℤ to_z w64 (of_z w64 z))))) × Fits w64 (nat_abs (to_z w64 (of_z w64 (negsuc 0 -ℤ to_z w64 (of_z w64 z)))))
-  turned_cast = rw turned_back (tt, fits_lit' below.0 small)
-    where
-      fits_lit' : (x : ℕ) → x < 2 ^ 63 → Fits w64 x
-      fits_lit' x l = record { fits = omega (arith, l) }
-
-  pub turned_room : nat_abs (to_z w64 (of_z w64 (negsuc 0 -ℤ to_z w64 (of_z w64 z)))) ≤ max_word
-  turned_room = rw turned_back (omega (arith, small))
-
-  pub turned_word : max_word - nat_abs (to_z w64 (of_z w64 (negsuc 0 -ℤ to_z w64 (of_z w64 z)))) ≡ complement z
-  unfolding complement
-  turned_word = ap (λ (y : ℤ). max_word - nat_abs y) turned_back ∙ sym (ap complement below.1)
-
--- and of one that is not
-module _ {z : ℤ} (f : SFits w64 z) (t : lt_z (to_z w64 (of_z w64 z)) (pos 0) ≡ false) where
-  above : (x : ℕ) × (z ≡ pos x)
-  above = go z (rw (read_back f) at t)
-    where
-      go : (y : ℤ) → lt_z y (pos 0) ≡ false → (x : ℕ) × (y ≡ pos x)
-      go (pos x) h = (x, refl)
-      go (negsuc x) h = absurd (true_not_false {b = true} refl h)
-
-  pub plain_cast : T (non_neg (to_z w64 (of_z w64 z))) × Fits w64 (nat_abs (to_z w64 (of_z w64 z)))
-  unfolding above
-  plain_cast = rw (read_back f, above.1) (tt, record { fits = omega (arith, subst (λ (y : ℤ). mag y < 2 ^ 63) above.1 f.sfits) })
-
-  pub plain_word : nat_abs (to_z w64 (of_z w64 z)) ≡ complement z
-  unfolding complement above
-  plain_word = ap nat_abs (read_back f ∙ above.1) ∙ sym (ap complement above.1)
+pub margin_be : (z : ℤ) → to_be_bytes w64 (of_z w64 z) ≡ margin_bytes z
+unfolding margin_bytes
+margin_be z = word_bytes (of_z w64 z) ∙ ap (λ (x : ℕ). wide_field (x / 0x1_0000_0000) ++ wide_field x) (cast_is z)
 
 -- ---- the row
 

@@ -6,7 +6,7 @@ ghost use Rattle.std.specs.Int.Signed.{mag};
 ghost use Rattle.truss.specs.Limits.{margin_length};
 ghost use Rattle.truss.specs.Lists.{concat_map};
 ghost use Rattle.truss.specs.Call.{overwrite};
-ghost use Rattle.truss.specs.Bets.{complement, margin_bytes};
+ghost use Rattle.truss.specs.Bets.{margin_bytes};
 ghost use Rattle.columns.specs.Columns.{entry_bound, link_bound, COLUMNS};
 ghost use Rattle.wire.specs.Writing.{written};
 ghost use Rattle.margins.specs.Margins.{Listed, margin_in, margins_in, RowGiven, TakeGives};
@@ -19,9 +19,6 @@ use wire::paste;
 
 // The groups at k by number.
 const LEVEL: usize = 7;
-
-// The greatest number of 64 bits.
-const MOST_WORD: u64 = 18446744073709551615;
 
 // Group g goes to place t of the row, if it is a group at k: if it names itself in column TOP. Gives the next place.
 fn take_group(w: &mut [u32], m: usize, g: usize, t: usize) -> usize
@@ -46,10 +43,8 @@ pub fn list_groups(w: &mut [u32], m: usize, count: usize) -> usize
     ensures { Listed m count result w.old w.new }
 {
     let mut t: usize = 0;
-    let mut g: usize = 0;
-    while g < count {
+    for g in 0..count {
         t = take_group(w, m, g, t);
-        g += 1;
     }
     t
 }
@@ -73,57 +68,25 @@ fn margin_of(w: &[u32], m: usize, j: usize, limit: usize) -> i64
     margin(limit, sum)
 }
 
-// A margin in two's complement.
-fn word(z: i64) -> u64
-    ensures { result ≡ complement z }
-{
-    if z < 0 {
-        let x = -1 - z;
-        return MOST_WORD - x as u64;
-    }
-    z as u64
-}
-
-// A margin as bytes, high byte first.
-fn margin_record(z: i64) -> [u8; MARGIN_BYTES]
-    ensures { result ≡ margin_bytes z }
-{
-    let x = word(z);
-    [
-        (x / 4294967296 / 65536 / 256 % 256) as u8,
-        (x / 4294967296 / 65536 % 256) as u8,
-        (x / 4294967296 / 256 % 256) as u8,
-        (x / 4294967296 % 256) as u8,
-        (x / 65536 / 256 % 256) as u8,
-        (x / 65536 % 256) as u8,
-        (x / 256 % 256) as u8,
-        (x % 256) as u8,
-    ]
-}
-
 // The margins of the first r groups of the row, at the front of what is lent.
 pub fn write_margins(out: &mut [i64], w: &[u32], m: usize, r: usize, limit: usize)
     requires row_given { RowGiven m r limit w.now }
     requires r_in_bounds { r ≤ length out.old }
     ensures { out.new ≡ overwrite (margins_in w.now m limit r) out.old }
 {
-    let mut j: usize = 0;
-    while j < r {
+    for j in 0..r {
         out[j] = margin_of(w, m, j, limit);
-        j += 1;
     }
 }
 
-// The same as bytes, eight to a margin.
+// The same as bytes, eight to a margin, high byte first.
 pub fn write_bytes(out: &mut [u8], w: &[u32], m: usize, r: usize, limit: usize)
     requires row_given { RowGiven m r limit w.now }
     requires margin_length_in_bounds { r * margin_length ≤ length out.old }
     ensures { out.new ≡ written out.old 0 (concat_map margin_bytes (margins_in w.now m limit r)) }
 {
-    let mut j: usize = 0;
-    while j < r {
-        let rec = margin_record(margin_of(w, m, j, limit));
-        paste(&mut out[j * MARGIN_BYTES..], &rec);
-        j += 1;
+    for j in 0..r {
+        let bytes = margin_of(w, m, j, limit).to_be_bytes();
+        paste(&mut out[j * MARGIN_BYTES..], &bytes);
     }
 }

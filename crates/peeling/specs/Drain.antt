@@ -1,4 +1,4 @@
--- All links that wait are removed, until all that were left are in the queue: `pending`, `finish`, `drain`. Assumes nothing.
+-- All links that wait are removed, until all that were left are in the queue: `finish`, `drain`. Assumes nothing.
 use Rattle.std.specs.Prelude.{◌≡◌, refl, ◌⊎◌, ◌≢◌, List, ℕ, suc, ◌+◌, ◌*◌, ◌≤◌, ◌<◌, length}
 use Rattle.std.proofs.Common.{sym, ap, ◌∙◌, inl, inr, arith}
 use Rattle.truss.specs.Graph.{Graph}
@@ -47,11 +47,6 @@ pub record Drained (G : Graph) (m s all : ℕ) (d : ℕ → ℕ) (w₀ w start s
   pub falls : Falls m w₀ w
   pub after : (i : ℕ) → all ≤ i → i < m → cell w m QUEUE i ≡ cell w₀ m QUEUE i
 
--- where the links that wait end: nowhere once all that were left are in the queue
-pub data Pending (all tail r : ℕ) : Type 0 where
-  some : r ≡ tail → Pending all tail r
-  none : all ≤ tail → r ≡ 0 → Pending all tail r
-
 -- the supports stay, or, once all links that were left are in the queue, they are wiped
 pub data Finished (m all tail : ℕ) (w w' : List ℕ) : Type 0 where
   partial : tail < all → w' ≡ w → Finished m all tail w w'
@@ -67,10 +62,6 @@ DrainTurns m n s tail₀ all head tail at w₀ w start stop₀ stop mark₀ mark
 abbrev pub DrainGives : ℕ → ℕ → ℕ → ℕ → ℕ → List ℕ → List ℕ → List ℕ → List ℕ → List ℕ → List ℕ → List ℕ → Type 0
 DrainGives m n s tail₀ all w₀ w start stop₀ stop mark₀ mark =
     (G : Graph) (d₀ : ℕ → ℕ) → DrainPre G m n s tail₀ all d₀ w₀ start stop₀ mark₀ → (d : ℕ → ℕ) × Drained G m s all d w₀ w start stop mark
-
-pub pending_next : {all head tail r : ℕ} → Pending all tail r → head < r → head < tail
-pending_next (some q) l = omega arith
-pending_next (none f q) l = absurd (omega arith)
 
 -- the queue begins anew, at a level that may be higher
 pub anew : {G : Graph} {m k : ℕ} (k' : ℕ) {tail : ℕ} {d : ℕ → ℕ} {w w' : List ℕ} → k ≤ k' → Same m (cell w m SUPPORT) (cell w' m SUPPORT) → Same m (cell w m STRENGTH) (cell w' m STRENGTH)
@@ -175,8 +166,8 @@ module _ {G : Graph} {m n s tail₀ all : ℕ} {d₀ : ℕ → ℕ} {w₀ start 
               let b : y < m = R.level.queue.within i l in
               D.grows y b (still y b (R.level.queue.fresh i (omega arith) l) (same_or_not y e))
 
-    pub drain_end : {r : ℕ} {w' : List ℕ} → Pending all tail r → r ≤ head → Finished m all tail w w' → (d' : ℕ → ℕ) × Drained G m s all d' w₀ w' start stop mark
-    drain_end {r} {w'} p l (partial lt is) = rw is (
+    pub drain_end : {w' : List ℕ} → (tail < all → tail ≤ head) → Finished m all tail w w' → (d' : ℕ → ℕ) × Drained G m s all d' w₀ w' start stop mark
+    drain_end {w'} done (partial lt is) = rw is (
       d,
       record {
         ready = anew (suc (s + 2)) (omega arith) (λ y k. refl) (λ y k. refl) (level_end N d D.level q);
@@ -189,13 +180,9 @@ module _ {G : Graph} {m n s tail₀ all : ℕ} {d₀ : ℕ → ℕ} {w₀ start 
       },
     )
       where
-        go : Pending all tail r → tail ≤ head
-        go (some e) = omega arith
-        go (none f e) = absurd (omega arith)
-
         q : head ≡ tail
-        q = omega (arith, D.level.queue.order, go p)
-    drain_end {r} {w'} p l (full f W) = (
+        q = omega (arith, D.level.queue.order, done lt)
+    drain_end {w'} done (full f W) = (
       everyone,
       record {
         ready = anew (suc (s + 2)) (omega arith) (λ y k. refl) (λ y k. refl) (level_last N d D.level (queued f) W);

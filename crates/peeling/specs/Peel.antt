@@ -1,6 +1,7 @@
 -- All levels: `level`, `peel_levels`, `peel`. Assumes nothing.
-use Rattle.std.specs.Prelude.{◌≡◌, refl, ◌⊎◌, ◌≢◌, List, ℕ, ◌+◌, ◌*◌, ◌-◌, ◌≤◌, ◌<◌, length, get_or, set}
-use Rattle.std.proofs.Common.{sym, ◌∙◌, inl, inr, arith, length-set, get_or-set_same, get_or-set_other}
+use Rattle.std.specs.Prelude.{◌≡◌, refl, ◌⊎◌, ◌≢◌, Option, List, ℕ, ◌+◌, ◌*◌, ◌-◌, ◌≤◌, ◌<◌, length, get_or, take, drop}
+use Rattle.std.proofs.Common.{sym, ap, ◌∙◌, inl, inr, arith, get_or-take}
+use Rattle.std.proofs.lemmas.Grind.{get_or_after_one}
 use Rattle.truss.specs.Graph.{Graph, support, link_at}
 use Rattle.truss.specs.Strength.{strength}
 use Rattle.laws.proofs.Lists.{support_le}
@@ -64,7 +65,7 @@ module _ {G : Graph} {m n s place : ℕ} {d : ℕ → ℕ} {w start stop mark : 
   busy : (y : ℕ) → y < m → d y ≡ 0 → cell w m SUPPORT y ≢ 0
   busy y l z e = omega (arith, P.least y l (waiting P.ready y l z), P.some, e)
 
-  pub level_seeds : {first : ℕ} → Begun m place first → SeedPre G m n first s d w
+  pub level_seeds : {first : Option ℕ} → Begun m place first → SeedPre G m n first s d w
   level_seeds {first} b = record {
     named = P.named;
     small = P.small;
@@ -129,6 +130,10 @@ LevelsAsk m n w start stop mark = (G : Graph) × LevelsPre G m n w start stop ma
 abbrev pub LevelsTurn : ℕ → ℕ → ℕ → ℕ → List ℕ → List ℕ → List ℕ → List ℕ → List ℕ → List ℕ → List ℕ → Type 0
 LevelsTurn m n s place w₀ w start stop₀ stop mark₀ mark = (G : Graph) → LevelsPre G m n w₀ start stop₀ mark₀ → (d : ℕ → ℕ) × Peeling G m s place d w₀ w start stop mark
 
+-- after the last level
+abbrev pub LevelsEnd : ℕ → ℕ → List ℕ → List ℕ → List ℕ → List ℕ → List ℕ → List ℕ → List ℕ → Type 0
+LevelsEnd m n w₀ w start stop₀ stop mark₀ mark = (place : ℕ) × LevelsTurn m n no_support place w₀ w start stop₀ stop mark₀ mark
+
 abbrev pub LevelsGive : ℕ → ℕ → List ℕ → List ℕ → List ℕ → List ℕ → List ℕ → Type 0
 LevelsGive m n w₀ w start stop₀ mark₀ = (G : Graph) → LevelsPre G m n w₀ start stop₀ mark₀ → Peeled G m w₀ w
 
@@ -189,7 +194,7 @@ module _ {G : Graph} {m n : ℕ} {w₀ start stop₀ mark₀ : List ℕ} (P : Le
       pub levels-size : length w' ≡ COLUMNS * m
       levels-size = N.size
 
-      pub levels_list : {first : ℕ} → Begun m place first → Listed m first w'
+      pub levels_list : {first : Option ℕ} → Begun m place first → Listed m first w'
       levels_list b = listed_later b D.tops e.falls e.after
 
       module _ (l : s < no_support) {s' place' : ℕ} {w'' : List ℕ} (R : Rested m place' s' w' w'') where
@@ -242,23 +247,13 @@ PeelInAsks m n w start stop mark = (G : Graph) × PeelPre G m n w start mark × 
 abbrev pub PeelClears : ℕ → ℕ → List ℕ → List ℕ → List ℕ → List ℕ → List ℕ → Type 0
 PeelClears m n w w' start mark mark' = (G : Graph) → PeelPre G m n w start mark → PeelCleared G m n w w' mark'
 
--- the first a lists are whole
-pub record Ended (a : ℕ) (start stop₀ stop : List ℕ) : Type 0 where
+-- all lists are whole
+pub record Ended (n : ℕ) (start stop₀ stop : List ℕ) : Type 0 where
   pub same : length stop ≡ length stop₀
-  pub is : (c : ℕ) → c < a → start_at stop c ≡ start_at start (c + 1)
+  pub is : (c : ℕ) → c < n → start_at stop c ≡ start_at start (c + 1)
 
-pub ended_none : (start stop : List ℕ) → Ended 0 start stop stop
-ended_none start stop = record { same = refl; is = λ c l. absurd (omega arith) }
-
-pub ended_more : {a : ℕ} {start stop₀ stop : List ℕ} → Ended a start stop₀ stop → a < length stop → Ended (a + 1) start stop₀ (set stop a (start_at start (a + 1)))
-ended_more {a} {start} {stop₀} {stop} E l = record { same = length-set stop a (start_at start (a + 1)) ∙ E.same; is = λ c k. go c k (same_or_not c a) }
-  where
-    go : (c : ℕ) → c < a + 1 → (c ≡ a) ⊎ (c ≢ a) → start_at (set stop a (start_at start (a + 1))) c ≡ start_at start (c + 1)
-    go c k (inl e) = rw e (get_or-set_same stop a (start_at start (a + 1)) 0 l)
-    go c k (inr e) = get_or-set_other stop a c (start_at start (a + 1)) 0 e ∙ E.is c (omega arith)
-
-pub ended_all : {a n : ℕ} {start stop₀ stop : List ℕ} → a ≡ n → Ended a start stop₀ stop → Ended n start stop₀ stop
-ended_all q h = rw q at h
+pub ended_copied : {n k : ℕ} {start stop stop' : List ℕ} → length stop' ≡ length stop → stop' ≡ take k (drop 1 start) → n ≤ k → Ended n start stop stop'
+ended_copied {n} {k} {start} same is wide = record { same = same; is = λ c l. ap (λ (s : List ℕ). get_or s c 0) is ∙ get_or-take k (drop 1 start) c 0 (omega arith) ∙ get_or_after_one start c 0 ∙ ap (λ (z : ℕ). get_or start z 0) (omega arith) }
 
 module _ {G : Graph} {m n : ℕ} {w start mark : List ℕ} (P : PeelPre G m n w start mark) where
   module _ {stop₀ stop : List ℕ} (wide : length stop₀ ≡ n) (E : Ended n start stop₀ stop) {w₁ : List ℕ} (B : Bare m m w w₁) where

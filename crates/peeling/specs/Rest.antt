@@ -1,6 +1,7 @@
 -- The list of the links that are left, those whose support is not 0: `begin`, `listed`, `lesser`, `keep`, `rest`; and how many a queue can have of them. Assumes nothing.
-use Rattle.std.specs.Prelude.{◌≡◌, refl, ◌⊎◌, ◌≢◌, cond, List, ℕ, ◌+◌, ◌*◌, ◌-◌, ◌≤◌, ◌<◌, eqb, length}
-use Rattle.std.proofs.Common.{sym, ◌∙◌, inl, inr, arith, eq-eqb, ne_eqb}
+use Rattle.std.specs.Prelude.{◌≡◌, refl, ◌⊎◌, ◌≢◌, Option, Some, None, MatchOption, List, ℕ, ◌+◌, ◌*◌, ◌-◌, ◌≤◌, ◌<◌, length}
+use Rattle.std.proofs.Common.{sym, ◌∙◌, inl, inr, arith}
+use Rattle.std.specs.Option.{unwrap_or, option_map_or}
 use Rattle.std.proofs.Math.Path.{ap}
 use Rattle.laws.proofs.Numbers.{same_or_not, less_or_not}
 use Rattle.laws.proofs.Sets.{pigeonhole}
@@ -11,27 +12,33 @@ use Rattle.removal.specs.Left.{Falls}
 
 -- ---- the list that is read from `first` on
 
--- its link at place i; link i itself if the list begins at 0, that of all links
-unfoldable pub listed_at : List ℕ → ℕ → ℕ → ℕ → ℕ
-listed_at w m first i = cond (eqb first 0) i (cell w m QUEUE i)
+-- its first place; that of all links if there is none
+abbrev pub begins : Option ℕ → ℕ
+begins first = unwrap_or first 0
 
-module _ (w : List ℕ) (m first i : ℕ) where
-  pub listed-all : first ≡ 0 → listed_at w m first i ≡ i
-  unfolding listed_at
-  listed-all z = rw (eq-eqb first 0 z)
+-- its link at place i; link i itself if all links are gone through
+unfoldable pub listed_at : List ℕ → ℕ → Option ℕ → ℕ → ℕ
+listed_at w m None i = i
+listed_at w m (Some place) i = cell w m QUEUE i
 
-  pub listed-cell : first ≢ 0 → listed_at w m first i ≡ cell w m QUEUE i
+module _ (w : List ℕ) (m : ℕ) (first : Option ℕ) (i : ℕ) where
+  pub listed-all : first ≡ None → listed_at w m first i ≡ i
   unfolding listed_at
-  listed-cell n = rw (ne_eqb first 0 n)
+  listed-all z = rw z refl
 
-  pub listed_same : (w' : List ℕ) → cell w' m QUEUE i ≡ cell w m QUEUE i → listed_at w' m first i ≡ listed_at w m first i
+  pub listed-cell : {place : ℕ} → first ≡ Some place → listed_at w m first i ≡ cell w m QUEUE i
   unfolding listed_at
-  listed_same w' q = rw q
+  listed-cell z = rw z refl
+
+pub listed_same : (w : List ℕ) (m : ℕ) (first : Option ℕ) (i : ℕ) (w' : List ℕ) → cell w' m QUEUE i ≡ cell w m QUEUE i → listed_at w' m first i ≡ listed_at w m first i
+unfolding listed_at
+listed_same w m None i w' q = refl
+listed_same w m (Some place) i w' q = q
 
 -- it misses no link that is left
-pub record Listed (m first : ℕ) (w : List ℕ) : Type 0 where
-  pub within : (i : ℕ) → first ≤ i → i < m → listed_at w m first i < m
-  pub finds : (y : ℕ) → y < m → cell w m SUPPORT y ≢ 0 → (i : ℕ) × (first ≤ i) × (i < m) × (listed_at w m first i ≡ y)
+pub record Listed (m : ℕ) (first : Option ℕ) (w : List ℕ) : Type 0 where
+  pub within : (i : ℕ) → begins first ≤ i → i < m → listed_at w m first i < m
+  pub finds : (y : ℕ) → y < m → cell w m SUPPORT y ≢ 0 → (i : ℕ) × (begins first ≤ i) × (i < m) × (listed_at w m first i ≡ y)
 
 -- the links that are left stand in column QUEUE from `place` on
 pub record Tops (m place : ℕ) (w : List ℕ) : Type 0 where
@@ -40,39 +47,34 @@ pub record Tops (m place : ℕ) (w : List ℕ) : Type 0 where
   pub finds : (y : ℕ) → y < m → cell w m SUPPORT y ≢ 0 → (i : ℕ) × (place ≤ i) × (i < m) × (cell w m QUEUE i ≡ y)
 
 -- where a list that begins at `place` is read from
-pub data Begun (m place r : ℕ) : Type 0 where
-  whole : place < m - place → r ≡ 0 → Begun m place r
-  listed : m - place ≤ place → r ≡ place → Begun m place r
+pub data Begun (m place : ℕ) (r : Option ℕ) : Type 0 where
+  whole : place < m - place → r ≡ None → Begun m place r
+  listed : m - place ≤ place → r ≡ Some place → Begun m place r
 
 -- a queue of no more links than were left stays before the list, unless all links are gone through
-pub begun_before : {m place first : ℕ} → Begun m place first → (first ≡ 0) ⊎ (m - place ≤ first)
+pub begun_before : {m place : ℕ} {first : Option ℕ} → Begun m place first → (first ≡ None) ⊎ (m - place ≤ begins first)
 begun_before (whole l z) = inl z
-begun_before (listed l q) = inr (omega arith)
+begun_before (listed l q) = inr (rw q l)
 
-pub listed-whole : {m first : ℕ} (w : List ℕ) → first ≡ 0 → Listed m first w
-listed-whole {m} {first} w z = record {
-  within = λ i l k. rw (listed-all w m first i z) k;
-  finds = λ y l n. (y, omega arith, l, listed-all w m first y z);
+pub listed-whole : {m : ℕ} (w : List ℕ) → Listed m None w
+listed-whole {m} w = record {
+  within = λ i l k. rw (listed-all w m None i refl) k;
+  finds = λ y l n. (y, omega arith, l, listed-all w m None y refl);
 }
 
 -- it is a list still once more links are gone, and a queue of no more links than were left is written before it
-pub listed_later : {m place first : ℕ} {w w' : List ℕ} → Begun m place first → Tops m place w → Falls m w w'
+pub listed_later : {m place : ℕ} {first : Option ℕ} {w w' : List ℕ} → Begun m place first → Tops m place w → Falls m w w'
     → ((i : ℕ) → m - place ≤ i → i < m → cell w' m QUEUE i ≡ cell w m QUEUE i) → Listed m first w'
-listed_later {m} {place} {first} {w} {w'} (whole l z) T falls same = listed-whole w' z
-listed_later {m} {place} {first} {w} {w'} (listed l q) T falls same = go (same_or_not first 0)
+listed_later {m} {place} {first} {w} {w'} (whole l z) T falls same = rw z (listed-whole w')
+listed_later {m} {place} {first} {w} {w'} (listed l q) T falls same = rw q (record {
+  within = λ i f k. rw (at i f k) (T.within i f k);
+  finds = λ y k h.
+      let r = T.finds y k (falls y k h) in
+      (r.0, r.1, r.2, at r.0 r.1 r.2 ∙ r.3);
+})
   where
-    at : (i : ℕ) → first ≤ i → i < m → first ≢ 0 → listed_at w' m first i ≡ cell w m QUEUE i
-    at i f k n = listed-cell w' m first i n ∙ same i (omega arith) k
-
-    go : (first ≡ 0) ⊎ (first ≢ 0) → Listed m first w'
-    go (inl z) = listed-whole w' z
-    go (inr n) = record {
-      within = λ i f k. rw (at i f k n) (T.within i (omega arith) k);
-      finds = λ y k h.
-          let r = T.finds y k (falls y k h) in
-          let f : first ≤ r.0 = omega (arith, r.1) in
-          (r.0, f, r.2, at r.0 f r.2 n ∙ r.3);
-    }
+    at : (i : ℕ) → place ≤ i → i < m → listed_at w' m (Some place) i ≡ cell w m QUEUE i
+    at i f k = listed-cell w' m (Some place) i refl ∙ same i (omega arith) k
 
 -- ---- no more than `all` links are left, σ their supports: each has a place of its own
 
@@ -161,8 +163,47 @@ pub record Rested (m place best : ℕ) (w₀ w : List ℕ) : Type 0 where
   pub supports : Same m (cell w₀ m SUPPORT) (cell w m SUPPORT)
   pub strengths : Same m (cell w₀ m STRENGTH) (cell w m STRENGTH)
 
+-- the same where no link is left: its support would be less
+pub record NoneLeft (m : ℕ) (w₀ w : List ℕ) : Type 0 where
+  pub place : ℕ
+  pub rested : Rested m place no_support w₀ w
+
+-- and where one is left
+pub record SomeLeft (m place best : ℕ) (w₀ w : List ℕ) : Type 0 where
+  pub rested : Rested m place best w₀ w
+  pub small : best < no_support
+
+pub rested_none : {m place best : ℕ} {w₀ w : List ℕ} → Rested m place best w₀ w → no_support ≤ best → NoneLeft m w₀ w
+rested_none {m} {place} {best} R l = record {
+  place = place;
+  rested = record {
+    tops = R.tops;
+    least = record { low = λ y h n. omega (arith, R.least.low y h n); greatest = λ k h b. h };
+    kept = R.kept;
+    supports = R.supports;
+    strengths = R.strengths;
+  };
+}
+
+-- one or the other
+module _ {A : Type 0} {m : ℕ} {w₀ w : List ℕ} where
+  pub rest_made : (o : Option A) (place least : A → ℕ) → MatchOption o (NoneLeft m w₀ w) (λ r. SomeLeft m (place r) (least r) w₀ w) → (p : ℕ) × (b : ℕ) × Rested m p b w₀ w
+  rest_made None place least h = (h.place, no_support, h.rested)
+  rest_made (Some r) place least h = (place r, least r, h.rested)
+
+  pub rest_cases : (o : Option A) (place least : A → ℕ) {P : Type 0} {Q : A → Type 0} → (NoneLeft m w₀ w → P) → ((r : A) → SomeLeft m (place r) (least r) w₀ w → Q r)
+      → MatchOption o (NoneLeft m w₀ w) (λ r. SomeLeft m (place r) (least r) w₀ w) → MatchOption o P Q
+  rest_cases None place least none some h = none h
+  rest_cases (Some r) place least none some h = some r h
+
+  -- the least support rises, so what is left of its range falls
+  pub rest_falls : (o : Option A) (place least : A → ℕ) {s : ℕ} → s < no_support → ((p b : ℕ) → Rested m p b w₀ w → s + 1 ≤ b)
+      → MatchOption o (NoneLeft m w₀ w) (λ r. SomeLeft m (place r) (least r) w₀ w) → option_map_or (λ r. no_support - least r) o 0 < no_support - s
+  rest_falls None place least l rise h = omega arith
+  rest_falls (Some r) place least l rise h = omega (arith, rise (place r) (least r) h.rested)
+
 -- the places from i on of the old list are done, and the new one begins at j
-pub record Resting (m first i j best : ℕ) (w₀ w : List ℕ) : Type 0 where
+pub record Resting (m : ℕ) (first : Option ℕ) (i j best : ℕ) (w₀ w : List ℕ) : Type 0 where
   pub behind : i ≤ j
   pub top : j ≤ m
   pub kept : Kept m FREE w₀ w
@@ -174,7 +215,7 @@ pub record Resting (m first i j best : ℕ) (w₀ w : List ℕ) : Type 0 where
   pub low : (k : ℕ) → i ≤ k → k < m → cell w₀ m SUPPORT (listed_at w₀ m first k) ≢ 0 → best ≤ cell w₀ m SUPPORT (listed_at w₀ m first k)
   pub greatest : (k : ℕ) → k ≤ no_support → ((y : ℕ) → y < m → cell w₀ m SUPPORT y ≢ 0 → k ≤ cell w₀ m SUPPORT y) → k ≤ best
 
-pub rest_start : (m first : ℕ) (w : List ℕ) → Resting m first m m no_support w w
+pub rest_start : (m : ℕ) (first : Option ℕ) (w : List ℕ) → Resting m first m m no_support w w
 rest_start m first w = record {
   behind = omega arith;
   top = omega arith;
@@ -188,11 +229,11 @@ rest_start m first w = record {
   greatest = λ k l h. l;
 }
 
-module _ {m first : ℕ} {w₀ : List ℕ} (size : length w₀ ≡ COLUMNS * m) (L : Listed m first w₀) {i j best : ℕ} {w : List ℕ} (S : Resting m first i j best w₀ w) where
+module _ {m : ℕ} {first : Option ℕ} {w₀ : List ℕ} (size : length w₀ ≡ COLUMNS * m) (L : Listed m first w₀) {i j best : ℕ} {w : List ℕ} (S : Resting m first i j best w₀ w) where
   pub rest-size : length w ≡ COLUMNS * m
   rest-size = S.kept.length_is ∙ size
 
-  module _ (more : first < i) {e : ℕ} (is : e ≡ listed_at w m first (i - 1)) where
+  module _ (more : begins first < i) {e : ℕ} (is : e ≡ listed_at w m first (i - 1)) where
     inside : i - 1 < m
     inside = omega (arith, S.behind, S.top)
 
@@ -248,7 +289,7 @@ module _ {m first : ℕ} {w₀ : List ℕ} (size : length w₀ ≡ COLUMNS * m) 
         under k l h n (inl q) = omega (arith, lesser.low (λ z. n (sym (x_at k q) ∙ z)), x_at k q)
         under k l h n (inr q) = omega (arith, lesser.under, S.low k (omega arith) h n)
 
-  pub rest_end : i ≤ first → Rested m j best w₀ w
+  pub rest_end : i ≤ begins first → Rested m j best w₀ w
   rest_end done = record {
     tops = record { top = S.top; within = S.within; finds = find };
     least = record { low = low; greatest = λ k l h. S.greatest k l (λ y b n. rw (← S.supports y b) (h y b (λ z. n (sym (S.supports y b) ∙ z)))) };

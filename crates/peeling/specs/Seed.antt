@@ -1,5 +1,5 @@
 -- The start of a level: `seed_one`, `seed_account`, `seed_hub`, `seed_hubs`, `seed`. Assumes nothing.
-use Rattle.std.specs.Prelude.{◌≡◌, refl, ◌⊎◌, ◌≢◌, List, ℕ, ◌+◌, ◌*◌, ◌≤◌, ◌<◌, ◌%◌, length}
+use Rattle.std.specs.Prelude.{◌≡◌, refl, ◌⊎◌, ◌≢◌, Option, List, ℕ, ◌+◌, ◌*◌, ◌≤◌, ◌<◌, ◌%◌, length}
 use Rattle.std.proofs.Common.{sym, ap, ◌∙◌, inl, inr, arith}
 use Rattle.truss.specs.Graph.{Graph}
 use Rattle.laws.proofs.Numbers.{same_or_not}
@@ -10,7 +10,7 @@ use Rattle.adjacency.specs.State.{Named, Kept, kept-none, kept_trans, kept_store
 use Rattle.removal.specs.Queue.{queue_push, queue_room, queue-met, queue_looked, upd_same}
 use Rattle.removal.specs.Left.{Left, left_fits, left_link, left_kept}
 use Rattle.removal.specs.State.{All, None, Waiting, Level}
-use Rattle.peeling.specs.Rest.{Listed, Few, listed_at, listed-all, listed_same, few_queued}
+use Rattle.peeling.specs.Rest.{begins, Listed, Few, listed_at, listed-all, listed_same, few_queued}
 
 -- a link in no queue has support s or more
 abbrev pub AtLeast : ℕ → ℕ → List ℕ → Type 0
@@ -130,7 +130,7 @@ module _ {G : Graph} {m n a s tail : ℕ} {d : ℕ → ℕ} {v w start stop : Li
 -- ---- all links of the list
 
 -- at most `all` links are left, so that the queue stays before the list
-pub record SeedPre (G : Graph) (m n first s : ℕ) (d : ℕ → ℕ) (w : List ℕ) : Type 0 where
+pub record SeedPre (G : Graph) (m n : ℕ) (first : Option ℕ) (s : ℕ) (d : ℕ → ℕ) (w : List ℕ) : Type 0 where
   pub named : Named G m n w
   pub small : s < no_support
   pub some : 1 ≤ s
@@ -138,25 +138,25 @@ pub record SeedPre (G : Graph) (m n first s : ℕ) (d : ℕ → ℕ) (w : List �
   pub busy : (y : ℕ) → y < m → d y ≡ 0 → cell w m SUPPORT y ≢ 0
   pub all : ℕ
   pub few : Few m all (cell w m SUPPORT)
-  pub before : (first ≡ 0) ⊎ (all ≤ first)
+  pub before : (first ≡ Rattle.std.specs.Prelude.None) ⊎ (all ≤ begins first)
 
 -- the links at the places from `first` up to i
-abbrev pub Listing : ℕ → ℕ → ℕ → List ℕ → ℕ → Type 0
-Listing m first i w y = Seen (listed_at w m first) first i y
+abbrev pub Listing : ℕ → Option ℕ → ℕ → List ℕ → ℕ → Type 0
+Listing m first i w y = Seen (listed_at w m first) (begins first) i y
 
 -- the level began at v, and the queue has the first `tail` links already
-abbrev pub SeedAsks : ℕ → ℕ → ℕ → ℕ → List ℕ → Type 0
+abbrev pub SeedAsks : ℕ → Option ℕ → ℕ → ℕ → List ℕ → Type 0
 SeedAsks m first s tail w = (G : Graph) × (n : ℕ) × (d : ℕ → ℕ) × (v : List ℕ) × SeedPre G m n first s d v × Seeding G m s None tail d v w
 
-abbrev pub SeedTurns : ℕ → ℕ → ℕ → ℕ → ℕ → ℕ → List ℕ → List ℕ → Type 0
+abbrev pub SeedTurns : ℕ → Option ℕ → ℕ → ℕ → ℕ → ℕ → List ℕ → List ℕ → Type 0
 SeedTurns m first i s tail₀ tail w₀ w =
     (G : Graph) (n : ℕ) (d : ℕ → ℕ) (v : List ℕ) → SeedPre G m n first s d v → Seeding G m s None tail₀ d v w₀ → Seeding G m s (Listing m first i v) tail d v w
 
-abbrev pub SeedGives : ℕ → ℕ → ℕ → ℕ → ℕ → List ℕ → List ℕ → Type 0
+abbrev pub SeedGives : ℕ → Option ℕ → ℕ → ℕ → ℕ → List ℕ → List ℕ → Type 0
 SeedGives m first s tail₀ tail w₀ w =
     (G : Graph) (n : ℕ) (d : ℕ → ℕ) (v : List ℕ) → SeedPre G m n first s d v → Seeding G m s None tail₀ d v w₀ → Seeding G m s All tail d v w
 
-pub seed_start : {G : Graph} {m s : ℕ} (first : ℕ) {tail : ℕ} {d : ℕ → ℕ} {v w : List ℕ} → Seeding G m s None tail d v w → Seeding G m s (Listing m first first v) tail d v w
+pub seed_start : {G : Graph} {m s : ℕ} (first : Option ℕ) {tail : ℕ} {d : ℕ → ℕ} {v w : List ℕ} → Seeding G m s None tail d v w → Seeding G m s (Listing m first (begins first) v) tail d v w
 seed_start first S = record {
   kept = S.kept;
   supports = S.supports;
@@ -165,7 +165,7 @@ seed_start first S = record {
   after = S.after;
 }
 
-module _ {G : Graph} {m n first s : ℕ} {d : ℕ → ℕ} {v : List ℕ} (P : SeedPre G m n first s d v) {i tail : ℕ} {w : List ℕ} (S : Seeding G m s (Listing m first i v) tail d v w) where
+module _ {G : Graph} {m n : ℕ} {first : Option ℕ} {s : ℕ} {d : ℕ → ℕ} {v : List ℕ} (P : SeedPre G m n first s d v) {i tail : ℕ} {w : List ℕ} (S : Seeding G m s (Listing m first i v) tail d v w) where
   pub seed_size : length w ≡ COLUMNS * m
   seed_size = S.kept.length_is ∙ P.named.size
 
@@ -173,11 +173,11 @@ module _ {G : Graph} {m n first s : ℕ} {d : ℕ → ℕ} {v : List ℕ} (P : S
   behind : tail ≤ P.all
   behind = few_queued P.few S.queue.within (λ k l. P.busy (cell w m QUEUE k) (S.queue.within k l) (S.queue.fresh k (omega arith) l)) (λ k j l h q. S.queue.once k j l h q)
 
-  module _ (from : first ≤ i) (more : i < m) {e : ℕ} (is : e ≡ listed_at w m first i) where
+  module _ (from : begins first ≤ i) (more : i < m) {e : ℕ} (is : e ≡ listed_at w m first i) where
     was : e ≡ listed_at v m first i
     was = go P.before
       where
-        go : (first ≡ 0) ⊎ (P.all ≤ first) → e ≡ listed_at v m first i
+        go : (first ≡ Rattle.std.specs.Prelude.None) ⊎ (P.all ≤ begins first) → e ≡ listed_at v m first i
         go (inl z) = is ∙ listed-all w m first i z ∙ sym (listed-all v m first i z)
         go (inr l) = is ∙ listed_same v m first i w (S.after i (omega (arith, behind)) more)
 

@@ -1,28 +1,15 @@
 // Peeling: from supports to strengths.
-ghost use Rattle.std.specs.Prelude.{◌≡◌, ◌+◌, ◌*◌, ◌≤◌, length};
-ghost use Rattle.truss.specs.Limits.{max_accounts};
+ghost use Rattle.std.specs.Prelude.{◌≡◌, ◌*◌, ◌≤◌, length};
 ghost use Rattle.peeling.specs.Bare.{First, Bare};
-ghost use Rattle.peeling.specs.Drain.{Pending, Finished, DrainAsks, DrainGives};
-ghost use Rattle.peeling.specs.Peel.{LevelAsks, LevelGives, LevelsAsk, LevelsGive, Ended, PeelAsks, PeelInAsks, PeelClears};
+ghost use Rattle.peeling.specs.Drain.{Finished, DrainAsks, DrainGives};
+ghost use Rattle.peeling.specs.Peel.{LevelAsks, LevelGives, LevelsAsk, LevelsGive, PeelAsks, PeelInAsks, PeelClears};
 ghost use Rattle.columns.specs.Columns.{COLUMNS, link_bound};
 
 use crate::rest::{begin, rest};
 use crate::seed::{seed, seed_hubs};
-use columns::{
-    NEAR, NO_SUPPORT, QUEUE, STRENGTH, SUPPORT, account_room, get, put, wipe, wipe_all, zero,
-};
+use columns::{NEAR, QUEUE, STRENGTH, SUPPORT, account_room, get, put, wipe, wipe_all, zero};
 use removal::centre::turn_to;
 use removal::remove::remove;
-
-// Where the links that wait end in the queue. Once all that were left are in it, nowhere: no triangle has to be taken off any more.
-fn pending(all: usize, tail: usize) -> usize
-    ensures { Pending all tail result }
-{
-    if tail < all {
-        return tail;
-    }
-    0
-}
 
 // The supports are wiped if all links that were left are in the queue.
 fn finish(w: &mut [u32], m: usize, all: usize, tail: usize)
@@ -35,7 +22,8 @@ fn finish(w: &mut [u32], m: usize, all: usize, tail: usize)
     }
 }
 
-// Removes all links that wait, the first `until` in the queue, and those that fall to s, until all that were left, at most `all`, are in the queue.
+// Removes all links that wait, the first `until` in the queue, and those that fall to s, until all that were left, at most `all`, are in the queue: then no triangle
+// has to be taken off any more.
 fn drain(
     w: &mut [u32],
     m: usize,
@@ -52,13 +40,13 @@ fn drain(
 {
     let mut head: usize = 0;
     let mut tail = until;
-    let mut end = pending(all, tail);
+    // No account is n, and the marks of n are whatever stands there: no case for no account is needed.
     let mut at = n;
-    while head < end {
+    // A while: the queue grows while it is gone through, so there is no range to name.
+    while head < tail && tail < all {
         let e = get(w, m, QUEUE, head);
         at = turn_to(w, m, n, start, stop, mark, e, at);
         tail = remove(w, m, n, start, stop, mark, e, at, s, tail);
-        end = pending(all, tail);
         head += 1;
     }
     finish(w, m, all, tail);
@@ -83,7 +71,7 @@ fn level(
     drain(w, m, n, start, stop, mark, s, tail, m - place);
 }
 
-// The strength of a link of x triangles, as far as it is known before the first level: 2 if there are none.
+// The strength of a link of x triangles before the first level: 2 if there are none, else 0, as column STRENGTH stores that it is not known yet.
 fn first_strength(x: usize) -> usize
     ensures { First x result }
 {
@@ -99,11 +87,9 @@ fn bare(w: &mut [u32], m: usize)
     requires m_le_link_bound { m ≤ link_bound }
     ensures { Bare m m w.old w.new }
 {
-    let mut e: usize = 0;
-    while e < m {
+    for e in 0..m {
         let x = get(w, m, SUPPORT, e);
         put(w, m, STRENGTH, e, first_strength(x));
-        e += 1;
     }
 }
 
@@ -112,33 +98,19 @@ fn peel_levels(w: &mut [u32], m: usize, n: usize, start: &[u32], stop: &mut [u32
     requires { LevelsAsk m n w.old start.now stop.old mark.old }
     ensures { LevelsGive m n w.old w.new start.now stop.old mark.old }
 {
-    let mut r = rest(w, m, 0);
-    while r.least < NO_SUPPORT {
+    let mut left = rest(w, m, None);
+    while let Some(r) = left {
         level(w, m, n, start, stop, mark, r.least, r.place);
-        r = rest(w, m, begin(m, r.place));
+        left = rest(w, m, begin(m, r.place));
     }
 }
 
-// stop[a]: where the list of account a ends. At first it is whole.
-fn ends(start: &[u32], stop: &mut [u32], n: usize)
-    requires start_len { length start.now ≡ n + 1 }
-    requires stop_len { length stop.old ≡ n }
-    requires n_le_max_accounts { n ≤ max_accounts }
-    ensures { Ended n start.now stop.old stop.new }
-{
-    let mut a: usize = 0;
-    while a < n {
-        stop[a] = start[a + 1];
-        a += 1;
-    }
-}
-
-// The peeling, with account-sized memory lent.
+// The peeling, with account-sized memory lent. stop[a]: where the list of account a ends. At first it is whole.
 fn peel_in(w: &mut [u32], m: usize, n: usize, start: &[u32], stop: &mut [u32], mark: &mut [u32])
     requires { PeelInAsks m n w.old start.now stop.old mark.old }
     ensures { PeelClears m n w.old w.new start.now mark.old mark.new }
 {
-    ends(start, stop, n);
+    stop.copy_from_slice(&start[1..]);
     bare(w, m);
     peel_levels(w, m, n, start, stop, mark);
     wipe_all(w, m, NEAR, SUPPORT);

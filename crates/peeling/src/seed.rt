@@ -43,12 +43,11 @@ fn seed_account(
     ensures { HubGives m s from result w.old w.new }
 {
     let mut tail = from;
-    let mut i = start[a] as usize;
+    let first = start[a] as usize;
     let end = stop[a] as usize;
-    while i < end {
+    for i in first..end {
         let x = near(w, m, i);
         tail = seed_one(w, m, x % HALF, s, tail);
-        i += 1;
     }
     tail
 }
@@ -78,25 +77,22 @@ pub fn seed_hubs(w: &mut [u32], m: usize, n: usize, start: &[u32], stop: &[u32],
     ensures { HubGives m s 0 result w.old w.new }
 {
     let mut tail: usize = 0;
-    let mut a: usize = 0;
-    while a < n {
+    for a in 0..n {
         tail = seed_hub(w, m, start, stop, a, s, tail);
-        a += 1;
     }
     tail
 }
 
 // All links of support s, the least there is, by the list that is read from `first` on, after the first `from` in the queue. Gives how many are in it then.
-pub fn seed(w: &mut [u32], m: usize, first: usize, s: usize, from: usize) -> usize
+pub fn seed(w: &mut [u32], m: usize, first: Option<usize>, s: usize, from: usize) -> usize
     requires { SeedAsks m first s from w.old }
     ensures { SeedGives m first s from result w.old w.new }
 {
     let mut tail = from;
-    let mut i = first;
-    while i < m {
+    let begins = first.unwrap_or(0);
+    for i in begins..m {
         let e = listed(w, m, first, i);
         tail = seed_one(w, m, e, s, tail);
-        i += 1;
     }
     tail
 }

@@ -19,7 +19,7 @@ use Rattle.columns.specs.Columns.{cell, entry, COLUMNS}
 use Rattle.columns.specs.Wiping.{zeros, zeros-length, zeros-cell}
 use Rattle.adjacency.specs.State.{Named, Near, named, other, start_at}
 use Rattle.adjacency.specs.Lists.{ListsDone}
-use Rattle.stored.specs.Rows.{graph_in, IsIndex, Shape, shape_sized, proper, few, few_links, few_accounts}
+use Rattle.stored.specs.Rows.{graph_in, IsIndex, Shape, proper, few, few_links, few_accounts}
 use Rattle.stored.specs.Climb.{group_of_strong, group_of_weak, group_of_is}
 use Rattle.pools.specs.Pools.{TOP, Row, PoolRows}
 use Rattle.pools.specs.Tops.{LINK, TopsAsks, TopsGive, LinksAsks, LinksGive, top_level}
@@ -177,14 +177,12 @@ module _ {b : List ℕ} {n m at count k : ℕ} (S : Shape b n m at count) (level
   -- ---- the steps put together
 
   module _ {w : List ℕ} (zero : w ≡ zeros (COLUMNS * m)) where
-    pub tops_asks : TopsAsks b at m count k w
-    tops_asks = record { sized = shape_sized S; level = level; size_is = ap length zero ∙ zeros-length (COLUMNS * m) }
+    pub tops_asks : TopsAsks m k w
+    tops_asks = record { level = level; size_is = ap length zero ∙ zeros-length (COLUMNS * m) }
 
     module _ {w₁ : List ℕ} (T : TopsGive H m count k w w₁) where
-      pub links_asks : LinksAsks b m k w₁
+      pub links_asks : LinksAsks H m k w₁
       links_asks = record {
-        is_index = J;
-        links = S.links;
         level = level;
         size_is = T.length_is ∙ tops_asks.size_is;
         tops = λ h l u. T.tops h l (omega (arith, u, S.groups));

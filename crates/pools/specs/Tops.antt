@@ -40,25 +40,24 @@ pub data TopIs (G : Graph) (k g r : ℕ) : Type 0 where
 abbrev pub Tops : Graph → ℕ → ℕ → ℕ → ℕ → List ℕ → Type 0
 Tops G m k g count w = (h : ℕ) → g ≤ h → h < count → TopIs G k h (cell w m TOP h)
 
-pub record TopsAsks (b : List ℕ) (at m count k : ℕ) (w : List ℕ) : Type 0 where
-  pub sized : Sized b at m count
+pub record TopsAsks (m k : ℕ) (w : List ℕ) : Type 0 where
   pub level : min_level ≤ k
   pub size_is : length w ≡ COLUMNS * m
 
-pub record TopAsks (b : List ℕ) (at m count k g : ℕ) (w : List ℕ) : Type 0 where
-  pub asks : TopsAsks b at m count k w
+pub record TopAsks (G : Graph) (m count k g : ℕ) (w : List ℕ) : Type 0 where
+  pub asks : TopsAsks m k w
   pub in_range : g < count
-  pub above : Tops (graph_in b) m k (g + 1) count w
+  pub above : Tops G m k (g + 1) count w
 
-module _ {b : List ℕ} {at m count k g : ℕ} {w : List ℕ} (A : TopAsks b at m count k g w) where
+module _ {b : List ℕ} {at m count k g : ℕ} {w : List ℕ} (X : Sized b at m count) (A : TopAsks (graph_in b) m count k g w) where
   abbrev G : Graph
   G = graph_in b
 
   I : IsIndex b
-  I = A.asks.sized.groups_at_lem.is_index
+  I = X.groups_at_lem.is_index
 
   pub top_group : g < group_count G
-  top_group = omega (arith, A.in_range, A.asks.sized.groups)
+  top_group = omega (arith, A.in_range, X.groups)
 
   pub top_weak : {s : ℕ} → s ≡ (stored G g).strength → s < k → TopIs G k g no_group
   top_weak q l = weak (omega (arith, q, l)) refl
@@ -68,7 +67,7 @@ module _ {b : List ℕ} {at m count k g : ℕ} {w : List ℕ} (A : TopAsks b at 
     strong_enough = omega (arith, q, l)
 
     climb : ClimbAsks b at count k g
-    climb = record { groups_at_lem = A.asks.sized.groups_at_lem; groups = A.asks.sized.groups; level = A.asks.level; in_range = A.in_range; strong = strong_enough }
+    climb = record { groups_at_lem = X.groups_at_lem; groups = X.groups; level = A.asks.level; in_range = A.in_range; strong = strong_enough }
 
     pub top_none : {p : ℕ} → p ≡ parent_of G g → p ≡ no_group → TopIs G k g g
     top_none e z = strong strong_enough (climb_top climb e z)
@@ -77,13 +76,13 @@ module _ {b : List ℕ} {at m count k g : ℕ} {w : List ℕ} (A : TopAsks b at 
     top_below e r h = strong strong_enough (climb_weak climb e r h)
 
     pub top_parent : {p : ℕ} → p ≡ parent_of G g → p ≢ no_group → (p < group_count G) × (p < m)
-    top_parent e n = let x = parent_in climb e n in (x, omega (arith, x, A.asks.sized.groups, (sized_few A.asks.sized).0))
+    top_parent e n = let x = parent_in climb e n in (x, omega (arith, x, X.groups, (sized_few X).0))
 
     pub top_on : {p t r : ℕ} → p ≡ parent_of G g → p ≢ no_group → t ≡ (stored G p).strength → k ≤ t → r ≡ cell w m TOP p → TopIs G k g r
     top_on {p} {t} {r} e n et h q =
         let x = parent_in climb e n in
         let rises : g < parent_of G g = parent_rises G (proper I) (fits_groups I) g top_group (omega (arith, x, e)) in
-        go (subst (TopIs G k p) (sym q) (A.above p (omega (arith, rises, e)) (omega (arith, x, A.asks.sized.groups))))
+        go (subst (TopIs G k p) (sym q) (A.above p (omega (arith, rises, e)) (omega (arith, x, X.groups))))
       where
         go : TopIs G k p r → TopIs G k g r
         go (weak f z) = absurd (omega (arith, f, et, h))
@@ -135,16 +134,16 @@ TopsGive G m count k w w' = Topping G m count k 0 w w'
 pub topping_none : {G : Graph} {m count k : ℕ} {w : List ℕ} → Topping G m count k count w w
 topping_none = record { length_is = refl; tops = λ h l u. absurd (omega (arith, l, u)); others = λ d y n l. refl }
 
-module _ {b : List ℕ} {at m count k g : ℕ} {w₀ w : List ℕ} (A : TopsAsks b at m count k w₀) (T : Topping (graph_in b) m count k g w₀ w) (some : 0 < g) (within : g ≤ count) where
-  pub topping_asks : TopAsks b at m count k (g - 1) w
+module _ {b : List ℕ} {at m count k g : ℕ} {w₀ w : List ℕ} (X : Sized b at m count) (A : TopsAsks m k w₀) (T : Topping (graph_in b) m count k g w₀ w) (some : 0 < g) (within : g ≤ count) where
+  pub topping_asks : TopAsks (graph_in b) m count k (g - 1) w
   topping_asks = record {
-    asks = record { sized = A.sized; level = A.level; size_is = T.length_is ∙ A.size_is };
+    asks = record { level = A.level; size_is = T.length_is ∙ A.size_is };
     in_range = omega (arith, some, within);
     above = λ h l u. T.tops h (omega (arith, l, some)) u;
   }
 
   pub topping_place : g - 1 < m
-  topping_place = omega (arith, some, within, (sized_few A.sized).0)
+  topping_place = omega (arith, some, within, (sized_few X).0)
 
   pub topping_more : {t : ℕ} {w' : List ℕ} → TopIs (graph_in b) k (g - 1) t → w' ≡ store w m TOP (g - 1) t → Topping (graph_in b) m count k (g - 1) w₀ w'
   topping_more {t} {w'} top u = rw u (record {
@@ -162,12 +161,10 @@ topping_all {G} {m} {count} {k} {g} {w₀} {w} l T = let e : g ≡ 0 = omega ari
 
 -- ---- the group at k of each link
 
-pub record LinksAsks (b : List ℕ) (m k : ℕ) (w : List ℕ) : Type 0 where
-  pub is_index : IsIndex b
-  pub links : size (graph_in b) ≡ m
+pub record LinksAsks (G : Graph) (m k : ℕ) (w : List ℕ) : Type 0 where
   pub level : min_level ≤ k
   pub size_is : length w ≡ COLUMNS * m
-  pub tops : Tops (graph_in b) m k 0 (group_count (graph_in b)) w
+  pub tops : Tops G m k 0 (group_count G) w
 
 -- the top of a link's own group
 pub own_top : {b : List ℕ} {k i g t : ℕ} → IsIndex b → min_level ≤ k → i < size (graph_in b) → g ≡ own_group (graph_in b) i → TopIs (graph_in b) k g t → t ≡ group_of (graph_in b) (groups (graph_in b)) k i
@@ -196,12 +193,12 @@ LinksGive G m k w w' = Linking G m k m w w'
 pub linking_none : {G : Graph} {m k : ℕ} {w : List ℕ} → Linking G m k 0 w w
 linking_none = record { length_is = refl; keys = λ y l. absurd (omega arith); links = λ y l. absurd (omega arith); others = λ d y n o l. refl }
 
-module _ {b : List ℕ} {m k i : ℕ} {w₀ w : List ℕ} (A : LinksAsks b m k w₀) (L : Linking (graph_in b) m k i w₀ w) (l : i < m) where
+module _ {b : List ℕ} {at m count k i : ℕ} {w₀ w : List ℕ} (X : Sized b at m count) (A : LinksAsks (graph_in b) m k w₀) (L : Linking (graph_in b) m k i w₀ w) (l : i < m) where
   abbrev G₂ : Graph
   G₂ = graph_in b
 
   pub linking_in : i < size G₂
-  linking_in = omega (arith, l, A.links)
+  linking_in = omega (arith, l, X.links)
 
   pub linking_long : length w ≡ COLUMNS * m
   linking_long = L.length_is ∙ A.size_is
@@ -215,17 +212,17 @@ module _ {b : List ℕ} {m k i : ℕ} {w₀ w : List ℕ} (A : LinksAsks b m k w
 
     module _ {g : ℕ} (own-g : g ≡ own_group G₂ i) where
       lg : g < group_count G₂
-      lg = omega (arith, own-g, own_below A.is_index i linking_in)
+      lg = omega (arith, own-g, own_below X.groups_at_lem.is_index i linking_in)
 
       pub linking_group : g < m
-      linking_group = omega (arith, lg, few A.is_index, A.links)
+      linking_group = omega (arith, lg, few X.groups_at_lem.is_index, X.links)
 
       module _ {t : ℕ} (e : t ≡ cell w₁ m TOP g) where
         top : TopIs G₂ k g t
         top = subst (TopIs G₂ k g) (sym (e ∙ cells TOP g ∙ kept_column w m KEY TOP i g x (omega arith) l linking_group ∙ L.others TOP g (omega arith) (omega arith) linking_group)) (A.tops g (omega arith) lg)
 
         pub linking_small : t < entry_bound
-        linking_small = top_small A.is_index top
+        linking_small = top_small X.groups_at_lem.is_index top
 
         pub linking_more : {w₂ : List ℕ} → w₂ ≡ store w₁ m LINK i t → Linking G₂ m k (i + 1) w₀ w₂
         linking_more {w₂} v = rw v (record {
@@ -240,7 +237,7 @@ module _ {b : List ℕ} {m k i : ℕ} {w₀ w : List ℕ} (A : LinksAsks b m k w
             key y h (inr s) = kept_entry w m KEY i y x s ∙ L.keys y (omega (arith, h, s))
 
             link : (y : ℕ) → y < i + 1 → (y ≡ i) ⊎ (y ≢ i) → cell (store w₁ m LINK i t) m LINK y ≡ group_of (graph_in b) (groups (graph_in b)) k y
-            link y h (inl s) = rw s (put_there w₁ m LINK i t (omega arith) l linking_long₁ ∙ own_top A.is_index A.level linking_in own-g top)
+            link y h (inl s) = rw s (put_there w₁ m LINK i t (omega arith) l linking_long₁ ∙ own_top X.groups_at_lem.is_index A.level linking_in own-g top)
             link y h (inr s) = kept_entry w₁ m LINK i y t s ∙ cells LINK y ∙ kept_column w m KEY LINK i y x (omega arith) l (omega (arith, h, l)) ∙ L.links y (omega (arith, h, s))
 
 pub linking_all : {G : Graph} {m k i : ℕ} {w₀ w : List ℕ} → i ≡ m → Linking G m k i w₀ w → LinksGive G m k w₀ w

@@ -3,22 +3,22 @@
 // never passes what is read. A group stands once in a row: column 5 has the last account that took it.
 #![tactic(auto)]
 
-ghost use Rattle.std.specs.Prelude.{◌≡◌, ◌+◌, ◌*◌, ◌≤◌, length};
-ghost use Rattle.truss.specs.Limits.{min_level};
+ghost use Rattle.std.specs.Prelude.{◌≡◌, ◌+◌, ◌*◌, ◌≤◌, length, unwrap_or};
+ghost use Rattle.truss.specs.Limits.{min_level, no_group};
 ghost use Rattle.columns.specs.Columns.{COLUMNS};
 ghost use Rattle.columns.specs.Wiping.{zeros};
-ghost use Rattle.stored.specs.Rows.{graph_in, Outlined};
+ghost use Rattle.stored.specs.Opening.{graph};
 ghost use Rattle.pools.specs.Pools.{PoolRows};
 ghost use Rattle.pools.specs.Tops.{LinksAsks, LinksGive, TopAsks, TopIs, TopsAsks, TopsGive};
 ghost use Rattle.pools.specs.Packing.{KeepAsks, KeepGives, PackAsks, PackGives, RowAsks, RowGives};
 
 use adjacency::lists::lists;
 use columns::{HALF, KEY, get, near, of, put, put_near};
-use index::open::Outline;
 use limits::NO_GROUP;
+use stored::opened::Index;
 use stored::rows::{group_parent, group_strength, link_group, link_key};
 
-// Of each link: its group at k, NO_GROUP if the link is weaker than k.
+// Of each link: its group at k, NO_GROUP if the link is weaker than k. (A cell is a number and no Option: nothing is allocated.)
 const LINK: usize = 3;
 
 // Of each stored group: the group at k with its links, NO_GROUP if it is weaker than k.
@@ -27,49 +27,46 @@ pub const TOP: usize = 4;
 // Of each group: one more than the last account whose row has it.
 const LAST: usize = 5;
 
-// The top of group g, with the tops of the groups after it at hand: a parent has a higher number.
-fn top_of(s: &[u8], at: usize, w: &[u32], m: usize, count: usize, k: usize, g: usize) -> usize
-    requires { TopAsks s.now at m count k g w.now }
-    ensures { TopIs (graph_in s.now) k g result }
+// The top of group g, if g is as strong as k, with the tops of the groups after it at hand: a parent has a higher number.
+fn top_of(index: Index, w: &[u32], k: usize, g: usize) -> Option<usize>
+    requires { TopAsks (graph index) index.m index.groups k g w.now }
+    ensures { TopIs (graph index.entry) k g (unwrap_or result no_group) }
 {
-    if group_strength(s, at, g) < k {
-        return NO_GROUP;
+    if group_strength(index.bytes, index.at, g) < k {
+        return None;
     }
-    let p = group_parent(s, at, g);
-    if p == NO_GROUP {
-        return g;
+    match group_parent(index.bytes, index.at, g) {
+        None => Some(g),
+        Some(p) => {
+            if group_strength(index.bytes, index.at, p) < k {
+                return Some(g);
+            }
+            Some(get(w, index.m, TOP, p))
+        }
     }
-    if group_strength(s, at, p) < k {
-        return g;
-    }
-    get(w, m, TOP, p)
 }
 
 // Column TOP, from the last group down.
-fn find_tops(s: &[u8], at: usize, w: &mut [u32], m: usize, count: usize, k: usize)
-    requires { TopsAsks s.now at m count k w.old }
-    ensures { TopsGive (graph_in s.now) m count k w.old w.new }
+fn find_tops(index: Index, w: &mut [u32], k: usize)
+    requires { TopsAsks index.m k w.old }
+    ensures { TopsGive (graph index.entry) index.entry.m index.entry.groups k w.old w.new }
 {
-    let mut g = count;
-    while 0 < g {
-        let t = top_of(s, at, w, m, count, k, g - 1);
-        put(w, m, TOP, g - 1, t);
-        g -= 1;
+    for g in (0..index.groups).rev() {
+        let t = top_of(index, w, k, g);
+        put(w, index.m, TOP, g, t.unwrap_or(NO_GROUP));
     }
 }
 
 // Columns KEY and LINK, of each link.
-fn load_links(s: &[u8], w: &mut [u32], m: usize, k: usize)
-    requires { LinksAsks s.now m k w.old }
-    ensures { LinksGive (graph_in s.now) m k w.old w.new }
+fn load_links(index: Index, w: &mut [u32], k: usize)
+    requires { LinksAsks (graph index) index.m k w.old }
+    ensures { LinksGive (graph index.entry) index.entry.m k w.old w.new }
 {
-    let mut i: usize = 0;
-    while i < m {
-        put(w, m, KEY, i, link_key(s, i));
-        let g = link_group(s, i);
-        let t = get(w, m, TOP, g);
-        put(w, m, LINK, i, t);
-        i += 1;
+    for i in 0..index.m {
+        put(w, index.m, KEY, i, link_key(index.bytes, i));
+        let g = link_group(index.bytes, i);
+        let t = get(w, index.m, TOP, g);
+        put(w, index.m, LINK, i, t);
     }
 }
 
@@ -97,10 +94,8 @@ fn pack_row(w: &mut [u32], m: usize, a: usize, from: usize, until: usize) -> usi
     ensures { RowGives m a from until result w.old w.new }
 {
     let mut to = from;
-    let mut j = from;
-    while j < until {
+    for j in from..until {
         to = keep(w, m, a, j, to);
-        j += 1;
     }
     to
 }
@@ -110,31 +105,25 @@ fn pack(w: &mut [u32], m: usize, n: usize, start: &[u32], end: &mut [u32])
     requires { PackAsks m n w.old start.now end.old }
     ensures { PackGives m n w.old w.new start.now end.new }
 {
-    let mut a: usize = 0;
-    while a < n {
+    for a in 0..n {
         let from = of(start, a);
         let until = of(start, a + 1);
         let to = pack_row(w, m, a, from, until);
         end[a] = to as u32;
-        a += 1;
     }
 }
 
 // For each account the groups at k that hold it, each once: entries start[a] .. end[a] of columns 1 and 2. Column TOP names which stored groups are groups at k, those
 // that name themselves; the columns from 6 on stay 0.
-pub fn pool_rows(s: &[u8], o: Outline, k: usize, w: &mut [u32], start: &mut [u32], end: &mut [u32])
-    requires outlined { Outlined s.now o }
-    requires w_value { w.old ≡ zeros (COLUMNS * o.m) }
+pub fn pool_rows(index: Index, k: usize, w: &mut [u32], start: &mut [u32], end: &mut [u32])
+    requires w_value { w.old ≡ zeros (COLUMNS * index.m) }
     requires min_level_le_k { min_level ≤ k }
-    requires start_len { length start.old ≡ o.n + 1 }
-    requires end_len { length end.old ≡ o.n }
-    ensures { PoolRows (graph_in s.now) k o.n o.m o.groups w.new start.new end.new }
+    requires start_len { length start.old ≡ index.n + 1 }
+    requires end_len { length end.old ≡ index.n }
+    ensures { PoolRows (graph index.entry) k index.entry.n index.entry.m index.entry.groups w.new start.new end.new }
 {
-    let m = o.m;
-    let n = o.n;
-    let count = o.groups;
-    find_tops(s, o.at, w, m, count, k);
-    load_links(s, w, m, k);
-    lists(w, m, n, start, end);
-    pack(w, m, n, start, end);
+    find_tops(index, w, k);
+    load_links(index, w, k);
+    lists(w, index.m, index.n, start, end);
+    pack(w, index.m, index.n, start, end);
 }

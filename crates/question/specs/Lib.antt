@@ -1,5 +1,6 @@
 -- What the questions promise, and why.
 pub mod Replies
+pub mod Checks
 pub mod Lists
 pub mod Links
 pub mod Levels

@@ -1,8 +1,10 @@
 -- The numbers that a column marks, counted and written; and the first numbers of a row, written. Assumes nothing.
-use Rattle.std.specs.Prelude.{◌≡◌, ◌⊎◌, ◌≢◌, Bool, true, false, cond, not, List, [], ◌∷◌, ◌++◌, ℕ, zero, suc, ◌+◌, ◌*◌, ◌-◌, ◌≤◌, ◌<◌, eqb, length}
+use Rattle.std.specs.Int.{from_bool}
+use Rattle.std.specs.Prelude.{Result, Ok, Err, IsErrAnd, take, drop, ◌≡◌, ◌⊎◌, ◌≢◌, Bool, true, false, not, List, [], ◌∷◌, ◌++◌, ℕ, zero, suc, ◌+◌, ◌*◌, ◌-◌, ◌≤◌, ◌<◌, eqb, length}
 use Rattle.std.proofs.Math.Path.{refl, ap}
 use Rattle.std.proofs.Common.{sym, ap₂, ◌∙◌, inl, inr, arith, length-append, eq-eqb, ne_eqb, eqb-true}
 use Rattle.std.proofs.lemmas.Bool.{eqb-false}
+use Rattle.std.proofs.lemmas.Result.{err_from_is_err_and}
 use Rattle.truss.specs.Limits.{max_links}
 use Rattle.truss.specs.Lists.{filter, range, concat_map}
 use Rattle.truss.specs.Record.{field}
@@ -14,9 +16,11 @@ use Rattle.laws.proofs.Members.{range_in, concat_map_last}
 use Rattle.laws.proofs.Sets.{filter_same}
 use Rattle.laws.proofs.Answers.{fields_length, answer-length}
 use Rattle.columns.specs.Columns.{cell, COLUMNS}
-use Rattle.wire.specs.Writing.{written, written_none, written-length, written_then}
-use Rattle.index.specs.declared.Reply.{Reply as CReply}
-use Rattle.index.specs.Build.{Replies}
+use Rattle.wire.specs.Writing.{written, written_none, written-length, written_then, written_next, back}
+use Rattle.limits.specs.declared.refusal.Refusal.{Refusal}
+use Rattle.limits.specs.declared.refusal.Refusal.TheVariants.{NoRoom}
+use Rattle.index.specs.declared.answers.Answered.{Answered}
+use Rattle.index.specs.Answered.{only}
 use Rattle.holding.specs.Marks.{Marks}
 use Rattle.ordering.specs.Rows.{marks_it, marked, marked_more, marked_same, marked-none, front, front_more, front_length}
 use Rattle.question.specs.Replies.{shown_no_room, shown_wrote}
@@ -55,14 +59,43 @@ pub answer_bytes_lem : (xs : List ℕ) → answer_bytes (numbers xs) ≡ field (
 unfolding answer_bytes
 answer_bytes_lem xs = refl
 
-module _ (xs out : List ℕ) where
-  pub list_no_room : {r : CReply} → length out < 2 + 2 * length xs → Replies r 12 0 → ListGives xs out r out
-  list_no_room l R = shown_no_room (numbers xs) out (omega (arith, l, answer-length xs)) R
+-- a count is written, if there is room for as many numbers after it
+pub record CountGives (count : ℕ) (out : List ℕ) (r : Result Answered Refusal) (out' : List ℕ) : Type 0 where
+  pub no_room : (f : Refusal) → r ≡ Err f → (f ≡ NoRoom) × (length out < 2 + 2 * count) × (out' ≡ out)
+  pub wrote : (a : Answered) → r ≡ Ok a → (a ≡ only (2 + 2 * count)) × (2 + 2 * count ≤ length out) × (out' ≡ written out 0 (field count))
 
-  pub list_wrote : {r : CReply} {out' : List ℕ} → 2 + 2 * length xs ≤ length out → out' ≡ written out 0 (field (length xs) ++ concat_map field xs) → Replies r 0 (2 + 2 * length xs) → ListGives xs out r out'
+module _ (xs out : List ℕ) where
+  pub list_no_room : length out < 2 + 2 * length xs → ListGives xs out (Err NoRoom) out
+  list_no_room l = shown_no_room (numbers xs) out (omega (arith, l, answer-length xs))
+
+  pub list_wrote : {a : Answered} {out' : List ℕ} → 2 + 2 * length xs ≤ length out → out' ≡ written out 0 (field (length xs) ++ concat_map field xs) → a ≡ only (2 + 2 * length xs) → ListGives xs out (Ok a) out'
   unfolding answer_value answer_second
-  list_wrote l q R =
-      shown_wrote (numbers xs) out refl (omega (arith, l, answer-length xs)) (q ∙ ap (written out 0) (sym (answer_bytes_lem xs))) (rw (← answer-length xs) at R)
+  list_wrote l q v =
+      shown_wrote (numbers xs) out refl (omega (arith, l, answer-length xs)) (q ∙ ap (written out 0) (sym (answer_bytes_lem xs))) (v ∙ ap only (sym (answer-length xs)))
+
+module _ {count : ℕ} {out : List ℕ} where
+  pub count_no_room : length out < 2 + 2 * count → CountGives count out (Err NoRoom) out
+  count_no_room l = record { no_room = λ f q. let e : ◌≡◌ {A = Result Answered Refusal} (Err NoRoom) (Err f) = q in (cc, l, refl); wrote = λ a q. let e : ◌≡◌ {A = Result Answered Refusal} (Err NoRoom) (Ok a) = q in absurd (let z : ◌≡◌ {A = ℕ} 0 1 = cc in omega arith) }
+
+  pub count_wrote : {a : Answered} {out' : List ℕ} → 2 + 2 * count ≤ length out → a ≡ only (2 + 2 * count) → out' ≡ written out 0 (field count) → CountGives count out (Ok a) out'
+  count_wrote {a} l v q = record {
+    no_room = λ f e. let g : ◌≡◌ {A = Result Answered Refusal} (Ok a) (Err f) = e in absurd (let z : ◌≡◌ {A = ℕ} 0 1 = cc in omega arith);
+    wrote = λ b e. let g : ◌≡◌ {A = Result Answered Refusal} (Ok a) (Ok b) = e in let f : b ≡ a = cc in (f ∙ v, l, q);
+  }
+
+module _ (xs out : List ℕ) {count : ℕ} (n : count ≡ length xs) where
+  -- no room
+  pub list_stops : (r : Result Answered Refusal) (f : Refusal) {out' : List ℕ} → IsErrAnd r (λ e. e ≡ f) → CountGives count out (Err f) out' → ListGives xs out r out'
+  list_stops r f h C =
+      let p = err_from_is_err_and r h in
+      let g = C.no_room f refl in
+      rw (p.1, p.2, g.0, g.2) (list_no_room xs out (omega (arith, g.1, n)))
+
+  -- the numbers after their count
+  pub list_goes_on : {a : Answered} {out₁ rest : List ℕ} → CountGives count out (Ok a) out₁ → rest ≡ written (take (length out₁ - 2) (drop 2 out₁)) 0 (concat_map field xs) → ListGives xs out (Ok a) (back out₁ 2 rest)
+  list_goes_on {a} {out₁} C q =
+      let g = C.wrote a refl in
+      list_wrote xs out (omega (arith, g.1, n)) (written_next out (field (length xs)) (concat_map field xs) 0 {at = 2} (g.2 ∙ ap (λ (k : ℕ). written out 0 (field k)) n) refl (omega (arith, g.1, n)) q) (g.0 ∙ ap (λ (k : ℕ). only (2 + 2 * k)) n)
 
 -- ---- what is marked is what passes a test
 
@@ -89,7 +122,7 @@ pub record ColumnGiven (m size : ℕ) (w : List ℕ) : Type 0 where
   pub part : size ≤ m
   pub few : m ≤ max_links
 
-pub counted_more : (w : List ℕ) (m i : ℕ) {c x r : ℕ} → c ≡ length (marked w m i) → x ≡ cell w m 0 i → r ≡ cond (eqb x 0) 0 1 → c + r ≡ length (marked w m (i + 1))
+pub counted_more : (w : List ℕ) (m i : ℕ) {c x r : ℕ} → c ≡ length (marked w m i) → x ≡ cell w m 0 i → r ≡ from_bool (not (eqb x 0)) → c + r ≡ length (marked w m (i + 1))
 counted_more w m i {c} {x} {r} q e u = go (same_or_not x 0)
   where
     go : (x ≡ 0) ⊎ (x ≢ 0) → c + r ≡ length (marked w m (i + 1))

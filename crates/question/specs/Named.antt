@@ -1,22 +1,27 @@
 -- Questions on named accounts: C, D and E. Assumes nothing.
-use Rattle.std.specs.Prelude.{◌≡◌, ◌⊎◌, ◌≢◌, Bool, true, false, cond, not, ◌&&◌, ◌||◌, ℕ, ◌+◌, ◌*◌, ◌/◌, ◌%◌, ◌≤◌, ◌<◌, ltb, leb, length, get_or}
+use Rattle.std.specs.Prelude.{Result, Ok, Err, IsErrAnd, max, ◌≡◌, ◌⊎◌, ◌≢◌, Bool, true, false, not, ◌&&◌, ◌||◌, ℕ, ◌+◌, ◌*◌, ◌/◌, ◌≤◌, ◌<◌, ltb, leb, length, get_or}
 use Rattle.std.proofs.Math.Path.{refl}
 use Rattle.std.proofs.Common.{sym, ap, ◌∙◌, subst, inl, inr, arith, le-leb, lt-ltb, le-ltb}
 use mathlib.Core.List.{List}
 use mathlib.Core.List.{Memᴰ as In}
 use Rattle.std.proofs.lemmas.Bool.{lt-leb}
+use Rattle.std.proofs.lemmas.Result.{err_from_is_err_and}
 use Rattle.truss.specs.Limits.{min_level, no_group, max_named}
 use Rattle.truss.specs.Lists.{all}
 use Rattle.truss.specs.Graph.{Graph}
 use Rattle.truss.specs.Group.{Group, groups}
-use Rattle.truss.specs.Refusal.{Checked, passed, refuse, refuse_if}
+use Rattle.truss.specs.Refusal.{Checked, passed, refused, refuse_if}
+use Rattle.truss.specs.Refusal.{Refusal as Refused}
+use Rattle.limits.specs.declared.refusal.Refusal.{Refusal}
+use Rattle.limits.specs.declared.refusal.Refusal.TheVariants.{Named, NoAccount}
+use Rattle.limits.specs.Refusals.{number_of, checked, refusal_in, at_no_place}
 use Rattle.truss.specs.Record.{field_at}
-use Rattle.truss.specs.Question.{Answer, numbers, answer, outside, accounts_in, bad_count, bad_level, holds_all, is_group_at, numbers_of, groups_holding, strongest_holding, all_holding, listed, ask_groups_at, ask_strongest, ask_all}
-use Rattle.laws.proofs.Lists.{test, both, and_left, and_right}
+use Rattle.truss.specs.Question.{outside, accounts_in, bad_count, holds_all, is_group_at, numbers_of, groups_holding, strongest_holding, all_holding}
+use Rattle.laws.proofs.Lists.{both, and_left, and_right}
 use Rattle.laws.proofs.Numbers.{same_or_not, less_or_not}
 use Rattle.laws.proofs.Members.{in_any, in_get_d, get_d_in}
 use Rattle.laws.proofs.Stored.{group_count, stored, no_such_group}
-use Rattle.laws.proofs.Answers.{well_counted, counted_well, ill_counted, all_inside, inside_all, numbers_in, in_numbers, D_only, D_all}
+use Rattle.laws.proofs.Answers.{counted_well, all_inside, inside_all, numbers_in, in_numbers, D_only, D_all}
 use Rattle.columns.specs.Columns.{cell, store, COLUMNS}
 use Rattle.columns.specs.Laws.{upd_store, length-store}
 use Rattle.wire.specs.Writing.{Tells, tells_yes, tells_no}
@@ -25,40 +30,31 @@ use Rattle.holding.specs.Marks.{Marks, marks_as, marks_clear}
 use Rattle.holding.specs.Ranks.{Before, in_before, before_in}
 use Rattle.holding.specs.Turns.{Names, HoldGives}
 use Rattle.ordering.specs.Rows.{marked}
+use Rattle.question.specs.Checks.{not_passed, same_refusal}
 use Rattle.question.specs.Lists.{marked_are}
 use Rattle.question.specs.Levels.{at_top, at_below, too_weak, not_top}
 
 -- ---- checks 8 and 9
 
--- the first of them that is met, 0 if none is
-abbrev pub names_fault : Graph → List ℕ → ℕ
-names_fault G named = cond (bad_count named) 8 (cond (outside G (accounts_in named)) 9 0)
+abbrev pub names_checked : Graph → List ℕ → Checked (Unit {0})
+names_checked G named = refuse_if (bad_count named) 8 0 (refuse_if (outside G (accounts_in named)) 9 0 (passed tt))
 
 module _ (named : List ℕ) where
-  pub none_named : length named ≡ 0 → bad_count named ≡ true
-  none_named z = ill_counted named (λ (c, some, few, q). omega (arith, z, some, q))
+  pub well_named : bad_count named ≡ false → (length named ≡ 2 * (length named / 2)) × (0 < length named / 2) × (length named / 2 ≤ max_named)
+  well_named f = let (c, some, few, q) = counted_well named f in (omega (arith, q), omega (arith, some, q), omega (arith, few, q))
 
-  pub many_named : max_named * 2 < length named → bad_count named ≡ true
-  many_named l = ill_counted named (λ (c, some, few, q). omega (arith, l, few, q))
+  module _ (G : Graph) where
+    pub fault_8 : bad_count named ≡ true → checked {A = Unit {0}} (Err Named) ≡ names_checked G named
+    unfolding checked number_of
+    fault_8 t = rw t refl
 
-  pub odd_named : length named % 2 ≡ 1 → bad_count named ≡ true
-  odd_named o = ill_counted named (λ (c, some, few, q). omega (arith, o, q))
+    pub fault_9 : bad_count named ≡ false → outside G (accounts_in named) ≡ true → checked {A = Unit {0}} (Err NoAccount) ≡ names_checked G named
+    unfolding checked number_of
+    fault_9 f t = rw (f, t) refl
 
-  pub good_named : length named ≢ 0 → length named ≤ max_named * 2 → length named % 2 ≢ 1 → bad_count named ≡ false
-  good_named n l o = well_counted named (length named / 2, omega (arith, n, o), omega (arith, l), omega (arith, o))
-
-  pub half_named : length named % 2 ≢ 1 → length named ≡ 2 * (length named / 2)
-  half_named o = omega (arith, o)
-
-  pub fault_8 : (G : Graph) → bad_count named ≡ true → 8 ≡ names_fault G named
-  fault_8 G t = rw t refl
-
-  module _ (G : Graph) (good : bad_count named ≡ false) where
-    pub fault_9 : outside G (accounts_in named) ≡ true → 9 ≡ names_fault G named
-    fault_9 t = rw (good, t) refl
-
-    pub fault_none : outside G (accounts_in named) ≡ false → 0 ≡ names_fault G named
-    fault_none f = rw (good, f) refl
+    pub fault_none : bad_count named ≡ false → outside G (accounts_in named) ≡ false → checked (Ok (tt {0})) ≡ names_checked G named
+    unfolding checked
+    fault_none f g = rw (f, g) refl
 
 -- the first j accounts are below n
 abbrev pub FirstBelow : List ℕ → ℕ → ℕ → Type 0
@@ -89,63 +85,38 @@ module _ (G : Graph) {n : ℕ} (accounts : G.n ≡ n) (named : List ℕ) (k : �
   none-outside l B = all_inside G (accounts_in named) (λ v m. omega (arith, inside_in l B v m, accounts))
 
 -- what no fault means
-pub record GoodNames (G : Graph) (n k : ℕ) (named : List ℕ) : Type 0 where
-  pub names : Names n k named
-  pub some : 0 < k
-  pub good_count : bad_count named ≡ false
-  pub inside : outside G (accounts_in named) ≡ false
-
-count_good : (named : List ℕ) → bad_count named ≡ false → (length named ≡ 2 * (length named / 2)) × (0 < length named / 2) × (length named / 2 ≤ max_named)
-count_good named f = let (c, some, few, q) = counted_well named f in (omega (arith, q), omega (arith, some, q), omega (arith, few, q))
-
-module _ (G : Graph) {n : ℕ} (accounts : G.n ≡ n) (named : List ℕ) {r : ℕ} (q : r ≡ names_fault G named) where
-  pub good_names : r ≡ 0 → GoodNames G n (length named / 2) named
-  good_names z = go (test (bad_count named)) (test (outside G (accounts_in named)))
+module _ (G : Graph) (named : List ℕ) where
+  pub names_good : checked (Ok (tt {0})) ≡ names_checked G named → (bad_count named ≡ false) × (outside G (accounts_in named) ≡ false)
+  unfolding checked
+  names_good q = go (bad_count named) (outside G (accounts_in named)) q
     where
-      go : (bad_count named ≡ true) ⊎ (bad_count named ≡ false) → (outside G (accounts_in named) ≡ true) ⊎ (outside G (accounts_in named) ≡ false) → GoodNames G n (length named / 2) named
-      go (inl t) y = absurd (omega (arith, q, z, fault_8 named G t))
-      go (inr f) (inl t) = absurd (omega (arith, q, z, fault_9 named G f t))
-      go (inr f) (inr g) =
-          let c = count_good named f in
-          record { names = record { even = c.0; few_names = c.2; below = λ v m. omega (arith, inside_all G (accounts_in named) g v m, accounts) }; some = c.1; good_count = f; inside = g }
+      go : (s t : Bool) → passed (tt {0}) ≡ refuse_if s 8 0 (refuse_if t 9 0 (passed (tt {0}))) → (s ≡ false) × (t ≡ false)
+      go true t q = absurd (not_passed (sym q))
+      go false true q = absurd (not_passed (sym q))
+      go false false q = (refl, refl)
 
-  faulty : {A : Type 0} (x : Checked A) → r ≢ 0 → refuse_if (bad_count named) 8 0 (refuse_if (outside G (accounts_in named)) 9 0 x) ≡ refuse r 0
-  faulty {A} x n = go (test (bad_count named)) (test (outside G (accounts_in named)))
+  -- they passed, and what comes after is checked
+  pub names_pass : {A : Type 0} (x : Checked A) → checked (Ok (tt {0})) ≡ names_checked G named → refuse_if (bad_count named) 8 0 (refuse_if (outside G (accounts_in named)) 9 0 x) ≡ x
+  names_pass x q = let g = names_good q in rw (g.0, g.1) refl
+
+  pub names_stop : {A : Type 0} (f : Refusal) (x : Checked A) → checked {A = Unit {0}} (Err f) ≡ names_checked G named
+      → refuse_if (bad_count named) 8 0 (refuse_if (outside G (accounts_in named)) 9 0 x) ≡ refused (refusal_in (at_no_place f))
+  unfolding checked
+  names_stop {A} f x q = go (bad_count named) (outside G (accounts_in named)) q
     where
-      go : (bad_count named ≡ true) ⊎ (bad_count named ≡ false) → (outside G (accounts_in named) ≡ true) ⊎ (outside G (accounts_in named) ≡ false)
-          → refuse_if (bad_count named) 8 0 (refuse_if (outside G (accounts_in named)) 9 0 x) ≡ refuse r 0
-      go (inl t) y = rw t (ap {B = Checked A} (λ (k : ℕ). refuse k 0) (sym (q ∙ sym (fault_8 named G t))))
-      go (inr f) (inl t) = rw (f, t) (ap {B = Checked A} (λ (k : ℕ). refuse k 0) (sym (q ∙ sym (fault_9 named G f t))))
-      go (inr f) (inr g) = absurd (n (q ∙ sym (fault_none named G f g)))
+      r : Refused
+      r = refusal_in (at_no_place f)
 
-  pub C_fault : (k : ℕ) → r ≢ 0 → answer G (ask_groups_at k named) ≡ refuse r 0
-  unfolding answer
-  C_fault k n = faulty _ n
+      go : (s t : Bool) → ◌≡◌ {A = Checked (Unit {0})} (refused r) (refuse_if s 8 0 (refuse_if t 9 0 (passed tt))) → refuse_if s 8 0 (refuse_if t 9 0 x) ≡ refused r
+      go true t q = same_refusal q
+      go false true q = same_refusal q
+      go false false q = absurd (not_passed q)
 
-  pub D_fault : r ≢ 0 → answer G (ask_strongest named) ≡ refuse r 0
-  unfolding answer
-  D_fault n = faulty _ n
-
-  pub E_fault : r ≢ 0 → answer G (ask_all named) ≡ refuse r 0
-  unfolding answer
-  E_fault n = faulty _ n
-
-module _ {G : Graph} {n k : ℕ} {named : List ℕ} (N : GoodNames G n k named) where
-  pub C_level : (l : ℕ) → bad_level l ≡ true → answer G (ask_groups_at l named) ≡ refuse 10 0
-  unfolding answer
-  C_level l t = rw (N.good_count, N.inside, t) refl
-
-  pub C_is : (l : ℕ) {xs : List ℕ} → bad_level l ≡ false → xs ≡ groups_holding G l (accounts_in named) → answer G (ask_groups_at l named) ≡ passed (numbers (listed G xs))
-  unfolding answer
-  C_is l f q = rw (N.good_count, N.inside, f) (ap {B = Checked Answer} (λ (y : List ℕ). passed (numbers (listed G y))) (sym q))
-
-  pub D_is : {xs : List ℕ} → xs ≡ strongest_holding G (accounts_in named) → answer G (ask_strongest named) ≡ passed (numbers (listed G xs))
-  unfolding answer
-  D_is q = rw (N.good_count, N.inside) (ap {B = Checked Answer} (λ (y : List ℕ). passed (numbers (listed G y))) (sym q))
-
-  pub E_answer : {xs : List ℕ} → xs ≡ all_holding G (accounts_in named) → answer G (ask_all named) ≡ passed (numbers (listed G xs))
-  unfolding answer
-  E_answer q = rw (N.good_count, N.inside) (ap {B = Checked Answer} (λ (y : List ℕ). passed (numbers (listed G y))) (sym q))
+  pub good_names : {n : ℕ} → G.n ≡ n → checked (Ok (tt {0})) ≡ names_checked G named → Names n (length named / 2) named × (0 < length named / 2)
+  good_names accounts q =
+      let g = names_good q in
+      let c = well_named named g.0 in
+      (record { even = c.0; few_names = c.2; below = λ v m. omega (arith, inside_all G (accounts_in named) g.1 v m, accounts) }, c.1)
 
 -- ---- E
 
@@ -243,17 +214,8 @@ best_none = record { most = λ x l. absurd (omega arith); met = λ l. absurd (om
 -- a group's strength counts if it is marked
 pub record Counts (G : Graph) (m g best r : ℕ) (w : List ℕ) : Type 0 where
   pub unmarked : cell w m 0 g ≡ 0 → r ≡ best
-  pub marked_is : cell w m 0 g ≢ 0 → ((r ≡ best) × ((stored G g).strength ≤ best)) ⊎ ((r ≡ (stored G g).strength) × (best ≤ (stored G g).strength))
+  pub marked_is : cell w m 0 g ≢ 0 → r ≡ max best (stored G g).strength
   pub small : r < 65536
-
-pub counts_unmarked : {G : Graph} {m g best x : ℕ} {w : List ℕ} → x ≡ cell w m 0 g → x ≡ 0 → best < 65536 → Counts G m g best best w
-counts_unmarked q z l = record { unmarked = λ _. refl; marked_is = λ n. absurd (n (sym q ∙ z)); small = l }
-
-pub counts_less : {G : Graph} {m g best x t : ℕ} {w : List ℕ} → x ≡ cell w m 0 g → x ≢ 0 → t ≡ (stored G g).strength → t ≤ best → best < 65536 → Counts G m g best best w
-counts_less q n e h l = record { unmarked = λ z. absurd (n (q ∙ z)); marked_is = λ _. inl (refl, omega (arith, e, h)); small = l }
-
-pub counts_more : {G : Graph} {m g best x t : ℕ} {w : List ℕ} → x ≡ cell w m 0 g → x ≢ 0 → t ≡ (stored G g).strength → best < t → t < 65536 → Counts G m g best t w
-counts_more q n e h l = record { unmarked = λ z. absurd (n (q ∙ z)); marked_is = λ _. inr (e, omega (arith, e, h)); small = l }
 
 pub best_more : {G : Graph} {m g best r : ℕ} {w : List ℕ} → Best G m g best w → Counts G m g best r w → Best G m (g + 1) r w
 best_more {G} {m} {g} {best} {r} {w} B C = go (same_or_not (cell w m 0 g) 0)
@@ -271,27 +233,27 @@ best_more {G} {m} {g} {best} {r} {w} B C = go (same_or_not (cell w m 0 g) 0)
         most : (x : ℕ) → x < g + 1 → cell w m 0 x ≢ 0 → (x ≡ g) ⊎ (x ≢ g) → (stored G x).strength ≤ r
         most x l n (inl s) = absurd (n (ap (cell w m 0) s ∙ z))
         most x l n (inr s) = omega (arith, C.unmarked z, B.most x (omega arith) n)
-    go (inr nz) = at (C.marked_is nz)
+    go (inr nz) = at (less_or_not best (stored G g).strength)
       where
-        at : ((r ≡ best) × ((stored G g).strength ≤ best)) ⊎ ((r ≡ (stored G g).strength) × (best ≤ (stored G g).strength)) → Best G m (g + 1) r w
-        at (inl (e, h)) = record {
+        at : (best < (stored G g).strength) ⊎ ((stored G g).strength ≤ best) → Best G m (g + 1) r w
+        at (inr h) = record {
           most = λ x l n. most x l n (same_or_not x g);
-          met = λ l. rw e (later (B.met (omega (arith, e, l))));
+          met = λ l. let e = C.marked_is nz in let f : r ≡ best = omega (arith, e, h) in rw f (later (B.met (omega (arith, f, l))));
           small = C.small;
         }
           where
             most : (x : ℕ) → x < g + 1 → cell w m 0 x ≢ 0 → (x ≡ g) ⊎ (x ≢ g) → (stored G x).strength ≤ r
-            most x l n (inl s) = rw s (omega (arith, e, h))
-            most x l n (inr s) = omega (arith, e, B.most x (omega arith) n)
-        at (inr (e, h)) = record {
+            most x l n (inl s) = rw s (omega (arith, C.marked_is nz))
+            most x l n (inr s) = omega (arith, C.marked_is nz, B.most x (omega arith) n)
+        at (inl h) = record {
           most = λ x l n. most x l n (same_or_not x g);
-          met = λ l. (g, omega arith, nz, sym e);
+          met = λ l. (g, omega arith, nz, omega (arith, C.marked_is nz, h));
           small = C.small;
         }
           where
             most : (x : ℕ) → x < g + 1 → cell w m 0 x ≢ 0 → (x ≡ g) ⊎ (x ≢ g) → (stored G x).strength ≤ r
-            most x l n (inl s) = rw s (omega (arith, e))
-            most x l n (inr s) = omega (arith, e, h, B.most x (omega arith) n)
+            most x l n (inl s) = rw s (omega (arith, C.marked_is nz))
+            most x l n (inr s) = omega (arith, C.marked_is nz, B.most x (omega arith) n)
 
 pub D_marked : {b : List ℕ} {m count best : ℕ} {named w : List ℕ} (w' : List ℕ) → group_count (graph_in b) ≡ count → HoldGives b m count named w → Best (graph_in b) m count best w
     → Marks (cell w' m 0) count (λ (g : ℕ). (holds_all (graph_in b) (accounts_in named) (stored (graph_in b) g) ≡ true) × (best ≤ (stored (graph_in b) g).strength))
@@ -338,16 +300,16 @@ D_marked {b} {m} {count} {best} {named} {w} w' q H B M =
 
 -- ---- what the functions give
 
-abbrev pub AboveGives : ℕ → List ℕ → Bool → Type 0
-AboveGives n named r = (G : Graph) → G.n ≡ n → r ≡ outside G (accounts_in named)
-
-abbrev pub FaultGives : ℕ → List ℕ → ℕ → Type 0
-FaultGives n named r = (G : Graph) → G.n ≡ n → r ≡ names_fault G named
-
-pub record HeldGives (b : List ℕ) (n m count : ℕ) (named : List ℕ) (r : ℕ) (w : List ℕ) : Type 0 where
-  pub fault : r ≡ names_fault (graph_in b) named
+pub record HeldGives (b : List ℕ) (m count : ℕ) (named : List ℕ) (r : Result (Unit {0}) Refusal) (w : List ℕ) : Type 0 where
+  pub checks : checked r ≡ names_checked (graph_in b) named
   pub size_is : length w ≡ COLUMNS * m
-  pub held : r ≡ 0 → GoodNames (graph_in b) n (length named / 2) named × HoldGives b m count named w
+  pub held : r ≡ Ok tt → HoldGives b m count named w
+
+pub held_not : (b : List ℕ) {m count : ℕ} (named : List ℕ) (r : Result (Unit {0}) Refusal) (f : Refusal) {w : List ℕ} → IsErrAnd r (λ e. e ≡ f) → checked {A = Unit {0}} (Err f) ≡ names_checked (graph_in b) named → length w ≡ COLUMNS * m
+    → HeldGives b m count named r w
+held_not b named r f h q l =
+    let p = err_from_is_err_and r h in
+    rw (p.1, p.2) (record { checks = q; size_is = l; held = λ e. absurd (let z : ◌≡◌ {A = ℕ} 0 1 = cc in omega arith) })
 
 abbrev pub Holding : List ℕ → List ℕ → ℕ → Type 0
 Holding b named g = holds_all (graph_in b) (accounts_in named) (stored (graph_in b) g) ≡ true

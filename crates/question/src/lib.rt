@@ -3,6 +3,7 @@
 #![tactic(auto)]
 
 pub mod answer;
+mod checks;
 mod links;
 mod lists;
 mod named;

@@ -1,26 +1,31 @@
 // The answer of C to F: a count and that many numbers. F's are those that column 0 marks, rising; those of C, D and E stand in a row.
-ghost use Rattle.std.specs.Prelude.{◌≡◌, ◌≢◌, cond, ◌+◌, ◌*◌, ◌<◌, ◌≤◌, eqb, length};
+ghost use Rattle.std.specs.Prelude.{◌≡◌, ◌≢◌, ◌+◌, ◌*◌, ◌<◌, ◌≤◌, length};
 ghost use Rattle.truss.specs.Lists.{concat_map};
 ghost use Rattle.truss.specs.Record.{field};
 ghost use Rattle.wire.specs.Wire.{place_bound};
 ghost use Rattle.wire.specs.Writing.{written};
 ghost use Rattle.question.specs.Replies.{Lists};
-ghost use Rattle.columns.specs.Columns.{cell};
+ghost use Rattle.columns.specs.Columns.{cell, link_bound};
 ghost use Rattle.ordering.specs.Rows.{front, marked};
-ghost use Rattle.question.specs.Lists.{ColumnGiven, PutGives, RowGiven, row_bytes};
+ghost use Rattle.question.specs.Lists.{ColumnGiven, CountGives, PutGives, RowGiven, row_bytes};
 
 use columns::get;
-use index::{Reply, answered};
+use index::answers::Answered;
+use limits::refusal::Refusal;
 use sorting::ROW;
 use wire::{field_record, paste};
 
-fn one_if(x: usize) -> usize
-    ensures { result ≡ cond (eqb x 0) 0 1 }
+// The count of a list, if there is room for the whole; else 12. What the whole answer gives.
+fn give_count(out: &mut [u8], count: usize) -> Result<Answered, Refusal>
+    requires { count ≤ link_bound }
+    ensures { CountGives count out.old result out.new }
 {
-    if x == 0 {
-        return 0;
+    let len = 2 + 2 * count;
+    if out.len() < len {
+        return Err(Refusal::NoRoom);
     }
-    1
+    paste(out, &field_record(count));
+    Ok(Answered::from(len as u32))
 }
 
 // How many of the numbers below size are marked.
@@ -28,13 +33,11 @@ fn count_marks(w: &[u32], m: usize, size: usize) -> usize
     requires { ColumnGiven m size w.now }
     ensures { result ≡ length (marked w.now m size) }
 {
-    let mut c: usize = 0;
-    let mut i: usize = 0;
-    while i < size {
-        c += one_if(get(w, m, 0, i));
-        i += 1;
+    let mut count = 0;
+    for i in 0..size {
+        count += usize::from(get(w, m, 0, i) != 0);
     }
-    c
+    count
 }
 
 // The number i at a place, if x is not 0; gives the place after it.
@@ -57,29 +60,21 @@ fn write_marks(out: &mut [u8], w: &[u32], m: usize, size: usize)
     requires size_in_bounds { 2 * length (marked w.now m size) ≤ length out.old }
     ensures { out.new ≡ written out.old 0 (concat_map field (marked w.now m size)) }
 {
-    let mut at: usize = 0;
-    let mut i: usize = 0;
-    while i < size {
+    let mut at = 0;
+    for i in 0..size {
         let x = get(w, m, 0, i);
         at = put_number(out, at, i, x);
-        i += 1;
     }
 }
 
 // The whole answer of numbers that are marked, or 12.
-pub fn give(out: &mut [u8], w: &[u32], m: usize, size: usize) -> Reply
+pub fn give(out: &mut [u8], w: &[u32], m: usize, size: usize) -> Result<Answered, Refusal>
     requires { ColumnGiven m size w.now }
     ensures { Lists (marked w.now m size) out.old result out.new }
 {
-    let c = count_marks(w, m, size);
-    let len = 2 + 2 * c;
-    if out.len() < len {
-        return answered(12, 0);
-    }
-    let rec = field_record(c);
-    paste(out, &rec);
+    let given = give_count(out, count_marks(w, m, size))?;
     write_marks(&mut out[2..], w, m, size);
-    answered(0, len as u32)
+    Ok(given)
 }
 
 // The first r numbers of the row, at the front of what is lent.
@@ -88,25 +83,18 @@ fn write_row(out: &mut [u8], w: &[u32], m: usize, r: usize)
     requires r_in_bounds { 2 * r ≤ length out.old }
     ensures { out.new ≡ written out.old 0 (row_bytes w.now m r) }
 {
-    let mut i: usize = 0;
-    while i < r {
+    for i in 0..r {
         let rec = field_record(get(w, m, ROW, i));
         paste(&mut out[2 * i..], &rec);
-        i += 1;
     }
 }
 
 // The whole answer of the first r numbers of the row, or 12.
-pub fn give_row(out: &mut [u8], w: &[u32], m: usize, r: usize) -> Reply
+pub fn give_row(out: &mut [u8], w: &[u32], m: usize, r: usize) -> Result<Answered, Refusal>
     requires { RowGiven m r w.now }
     ensures { Lists (front (cell w.now m 3) r) out.old result out.new }
 {
-    let len = 2 + 2 * r;
-    if out.len() < len {
-        return answered(12, 0);
-    }
-    let rec = field_record(r);
-    paste(out, &rec);
+    let given = give_count(out, r)?;
     write_row(&mut out[2..], w, m, r);
-    answered(0, len as u32)
+    Ok(given)
 }

@@ -2,60 +2,62 @@
 // strength, then by more accounts held, then by least link.
 ghost use Rattle.std.specs.Prelude.{◌≡◌, true, ◌+◌, ◌*◌, ◌<◌, ◌≤◌, length};
 ghost use Rattle.truss.specs.Limits.{max_named, min_level};
-ghost use Rattle.truss.specs.Question.{ask_all, ask_groups_at, ask_strongest, is_group_at, listed};
+ghost use Rattle.truss.specs.Question.{accounts_in, ask_all, ask_groups_at, ask_strongest, bad_count, is_group_at, listed, outside};
 ghost use Rattle.laws.proofs.Stored.{stored};
+ghost use Rattle.limits.specs.Refusals.{checked};
 ghost use Rattle.wire.specs.Writing.{Tells};
 ghost use Rattle.columns.specs.Columns.{COLUMNS};
 ghost use Rattle.columns.specs.Wiping.{zeros};
-ghost use Rattle.stored.specs.Rows.{Outlined, Sized, graph_in};
+ghost use Rattle.stored.specs.Opening.{graph};
 ghost use Rattle.ordering.specs.Rows.{marked};
 ghost use Rattle.question.specs.Replies.{Answers, Lists};
-ghost use Rattle.question.specs.Named.{AboveGives, Best, Counts, FaultGives, HeldGives, Kept, LevelGives, StrongestGives};
+ghost use Rattle.question.specs.Named.{Best, Counts, HeldGives, Kept, LevelGives, StrongestGives, names_checked};
 
+use crate::checks::level;
 use crate::lists::give_row;
 use columns::{get, put};
 use holding::marks::hold;
-use index::open::Outline;
-use index::{Reply, answered};
-use limits::{MOST_NAMED, NO_GROUP, bad_level};
+use index::answers::Answered;
+use limits::MOST_NAMED;
+use limits::refusal::Refusal;
 use ordering::list_groups;
+use stored::opened::Index;
 use stored::rows::{group_parent, group_strength};
 use wire::field_at;
 
-// Whether one of k named accounts is not below n.
-fn some_outside(named: &[u8], n: usize, k: usize) -> bool
+// Whether one of k named accounts is one that the index does not have.
+fn some_outside(index: Index, named: &[u8], k: usize) -> bool
     requires named_len { length named.now ≡ 2 * k }
     requires k_le_max_named { k ≤ max_named }
-    ensures { AboveGives n named.now result }
+    ensures { result ≡ outside (graph index.entry) (accounts_in named.now) }
 {
-    let mut j: usize = 0;
-    while j < k {
-        if n <= field_at(named, 2 * j) {
+    for j in 0..k {
+        if index.n <= field_at(named, 2 * j) {
             return true;
         }
-        j += 1;
     }
     false
 }
 
-// 8 or 9, the first of them that is met; 0 if none is.
-fn names_fault(named: &[u8], n: usize) -> u32
-    ensures { FaultGives n named.now result }
+// Whether what is lent names no account, more than sixteen, or half of one.
+fn bad_count(named: &[u8]) -> bool
+    ensures { result ≡ bad_count named.now }
 {
     let len = named.len();
-    if len == 0 {
-        return 8;
+    len == 0 || 2 * MOST_NAMED < len || len % 2 == 1
+}
+
+// 8, then 9.
+fn names(index: Index, named: &[u8]) -> Result<(), Refusal>
+    ensures { checked result ≡ names_checked (graph index.entry) named.now }
+{
+    if bad_count(named) {
+        return Err(Refusal::Named);
     }
-    if 2 * MOST_NAMED < len {
-        return 8;
+    if some_outside(index, named, named.len() / 2) {
+        return Err(Refusal::NoAccount);
     }
-    if len % 2 == 1 {
-        return 8;
-    }
-    if some_outside(named, n, len / 2) {
-        return 9;
-    }
-    0
+    Ok(())
 }
 
 // The mark of group g stays if the test held.
@@ -64,164 +66,137 @@ fn keep_if(w: &mut [u32], m: usize, g: usize, test: bool)
     requires g_lt_m { g < m }
     ensures { Kept m g test w.old w.new }
 {
-    if test {
-        return;
+    if !test {
+        put(w, m, 0, g, 0);
     }
-    put(w, m, 0, g, 0);
 }
 
 // Whether stored group g is a group at k: its strength is at least k, and its parent, if it has one, is weaker.
-fn is_group_at(s: &[u8], at: usize, m: usize, count: usize, k: usize, g: usize) -> bool
-    requires sized { Sized s.now at m count }
+fn is_group_at(index: Index, k: usize, g: usize) -> bool
     requires min_level_le_k { min_level ≤ k }
-    requires g_lt_count { g < count }
-    ensures { Tells result (is_group_at (graph_in s.now) k (stored (graph_in s.now) g) ≡ true) }
+    requires g_lt_count { g < index.groups }
+    ensures { Tells result (is_group_at (graph index.entry) k (stored (graph index.entry) g) ≡ true) }
 {
-    if group_strength(s, at, g) < k {
+    if group_strength(index.bytes, index.at, g) < k {
         return false;
     }
-    let p = group_parent(s, at, g);
-    if p == NO_GROUP {
-        return true;
+    match group_parent(index.bytes, index.at, g) {
+        None => true,
+        Some(p) => group_strength(index.bytes, index.at, p) < k,
     }
-    group_strength(s, at, p) < k
 }
 
 // Marks stay at groups at k.
-fn keep_level(s: &[u8], at: usize, w: &mut [u32], m: usize, count: usize, k: usize)
-    requires sized { Sized s.now at m count }
-    requires w_len { length w.old ≡ COLUMNS * m }
+fn keep_level(index: Index, w: &mut [u32], k: usize)
+    requires w_len { length w.old ≡ COLUMNS * index.m }
     requires min_level_le_k { min_level ≤ k }
-    ensures { LevelGives s.now m count k w.old w.new }
+    ensures { LevelGives index.entry.bytes.now index.entry.m index.entry.groups k w.old w.new }
 {
-    let mut g: usize = 0;
-    while g < count {
-        let t = is_group_at(s, at, m, count, k, g);
-        keep_if(w, m, g, t);
-        g += 1;
+    for g in 0..index.groups {
+        let t = is_group_at(index, k, g);
+        keep_if(w, index.m, g, t);
     }
 }
 
 // The greater of best and the strength of group g, if it is marked.
-fn better(s: &[u8], at: usize, w: &[u32], m: usize, count: usize, g: usize, best: usize) -> usize
-    requires sized { Sized s.now at m count }
-    requires w_len { length w.now ≡ COLUMNS * m }
-    requires g_lt_count { g < count }
+fn better(index: Index, w: &[u32], g: usize, best: usize) -> usize
+    requires w_len { length w.now ≡ COLUMNS * index.m }
+    requires g_lt_count { g < index.groups }
     requires best_bound { best < 65536 }
-    ensures { Counts (graph_in s.now) m g best result w.now }
+    ensures { Counts (graph index.entry) index.entry.m g best result w.now }
 {
-    if get(w, m, 0, g) == 0 {
+    if get(w, index.m, 0, g) == 0 {
         return best;
     }
-    let t = group_strength(s, at, g);
-    if t <= best {
-        return best;
-    }
-    t
+    best.max(group_strength(index.bytes, index.at, g))
 }
 
-// The greatest strength of the marked groups, 0 if there is none.
-fn greatest(s: &[u8], at: usize, w: &[u32], m: usize, count: usize) -> usize
-    requires sized { Sized s.now at m count }
-    requires w_len { length w.now ≡ COLUMNS * m }
-    ensures { Best (graph_in s.now) m count result w.now }
+// The greatest strength of the marked groups, 0 if there is none: then there is no mark to keep.
+fn greatest(index: Index, w: &[u32]) -> usize
+    requires { length w.now ≡ COLUMNS * index.m }
+    ensures { Best (graph index.entry) index.entry.m index.entry.groups result w.now }
 {
-    let mut best: usize = 0;
-    let mut g: usize = 0;
-    while g < count {
-        best = better(s, at, w, m, count, g, best);
-        g += 1;
+    let mut best = 0;
+    for g in 0..index.groups {
+        best = better(index, w, g, best);
     }
     best
 }
 
-// Marks stay at groups of at least a strength.
-fn keep_strongest(s: &[u8], at: usize, w: &mut [u32], m: usize, count: usize, best: usize)
-    requires sized { Sized s.now at m count }
-    requires w_len { length w.old ≡ COLUMNS * m }
-    ensures { StrongestGives s.now m count best w.old w.new }
+// Marks stay at groups of at least a strength. (The same as `keep_level` by another test: with a closure for it each would bring a law of its test, and the loop is shorter.)
+fn keep_strongest(index: Index, w: &mut [u32], best: usize)
+    requires { length w.old ≡ COLUMNS * index.m }
+    ensures { StrongestGives index.entry.bytes.now index.entry.m index.entry.groups best w.old w.new }
 {
-    let mut g: usize = 0;
-    while g < count {
-        let t = group_strength(s, at, g);
-        keep_if(w, m, g, best <= t);
-        g += 1;
+    for g in 0..index.groups {
+        let t = group_strength(index.bytes, index.at, g);
+        keep_if(w, index.m, g, best <= t);
     }
 }
 
 // 8 and 9, then the groups that hold all named accounts are marked.
-fn hold_named(s: &[u8], named: &[u8], w: &mut [u32], o: Outline) -> u32
-    requires outlined { Outlined s.now o }
-    requires w_value { w.old ≡ zeros (COLUMNS * o.m) }
-    ensures { HeldGives s.now o.n o.m o.groups named.now result w.new }
+fn hold_named(index: Index, named: &[u8], w: &mut [u32]) -> Result<(), Refusal>
+    requires { w.old ≡ zeros (COLUMNS * index.m) }
+    ensures { HeldGives index.entry.bytes.now index.entry.m index.entry.groups named.now result w.new }
 {
-    let f = names_fault(named, o.n);
-    if f != 0 {
-        return f;
-    }
-    hold(s, o, named, named.len() / 2, w);
-    0
+    names(index, named)?;
+    hold(index, named, named.len() / 2, w);
+    Ok(())
 }
 
 // The marked groups as they are listed, after their count, or 12.
-fn give_groups(s: &[u8], out: &mut [u8], w: &mut [u32], o: Outline) -> Reply
-    requires outlined { Outlined s.now o }
-    requires w_len { length w.old ≡ COLUMNS * o.m }
-    ensures { Lists (listed (graph_in s.now) (marked w.old o.m o.groups)) out.old result out.new }
+fn give_groups(index: Index, out: &mut [u8], w: &mut [u32]) -> Result<Answered, Refusal>
+    requires { length w.old ≡ COLUMNS * index.m }
+    ensures { Lists (listed (graph index.entry) (marked w.old index.entry.m index.entry.groups)) out.old result out.new }
 {
-    let r = list_groups(s, o, w);
-    give_row(out, w, o.m, r)
+    let r = list_groups(index, w);
+    give_row(out, w, index.m, r)
 }
 
 // C. The groups at k that hold all named accounts.
 pub fn groups_at(
-    s: &[u8],
+    index: Index,
     named: &[u8],
     out: &mut [u8],
     w: &mut [u32],
-    o: Outline,
     k: usize,
-) -> Reply
-    requires outlined { Outlined s.now o }
-    requires w_value { w.old ≡ zeros (COLUMNS * o.m) }
-    ensures { Answers (graph_in s.now) (ask_groups_at k named.now) out.old result out.new }
+) -> Result<Answered, Refusal>
+    requires { w.old ≡ zeros (COLUMNS * index.m) }
+    ensures { Answers (graph index.entry) (ask_groups_at k named.now) out.old result out.new }
 {
-    let f = names_fault(named, o.n);
-    if f != 0 {
-        return answered(f, 0);
-    }
-    if bad_level(k) {
-        return answered(10, 0);
-    }
-    hold(s, o, named, named.len() / 2, w);
-    keep_level(s, o.at, w, o.m, o.groups, k);
-    give_groups(s, out, w, o)
+    names(index, named)?;
+    level(k)?;
+    hold(index, named, named.len() / 2, w);
+    keep_level(index, w, k);
+    give_groups(index, out, w)
 }
 
 // D. Of the stored groups that hold all of them, those whose strength is greatest.
-pub fn strongest_groups(s: &[u8], named: &[u8], out: &mut [u8], w: &mut [u32], o: Outline) -> Reply
-    requires outlined { Outlined s.now o }
-    requires w_value { w.old ≡ zeros (COLUMNS * o.m) }
-    ensures { Answers (graph_in s.now) (ask_strongest named.now) out.old result out.new }
+pub fn strongest_groups(
+    index: Index,
+    named: &[u8],
+    out: &mut [u8],
+    w: &mut [u32],
+) -> Result<Answered, Refusal>
+    requires { w.old ≡ zeros (COLUMNS * index.m) }
+    ensures { Answers (graph index.entry) (ask_strongest named.now) out.old result out.new }
 {
-    let f = hold_named(s, named, w, o);
-    if f != 0 {
-        return answered(f, 0);
-    }
-    let best = greatest(s, o.at, w, o.m, o.groups);
-    keep_strongest(s, o.at, w, o.m, o.groups, best);
-    give_groups(s, out, w, o)
+    hold_named(index, named, w)?;
+    let best = greatest(index, w);
+    keep_strongest(index, w, best);
+    give_groups(index, out, w)
 }
 
 // E. All stored groups that hold all of them.
-pub fn all_groups(s: &[u8], named: &[u8], out: &mut [u8], w: &mut [u32], o: Outline) -> Reply
-    requires outlined { Outlined s.now o }
-    requires w_value { w.old ≡ zeros (COLUMNS * o.m) }
-    ensures { Answers (graph_in s.now) (ask_all named.now) out.old result out.new }
+pub fn all_groups(
+    index: Index,
+    named: &[u8],
+    out: &mut [u8],
+    w: &mut [u32],
+) -> Result<Answered, Refusal>
+    requires { w.old ≡ zeros (COLUMNS * index.m) }
+    ensures { Answers (graph index.entry) (ask_all named.now) out.old result out.new }
 {
-    let f = hold_named(s, named, w, o);
-    if f != 0 {
-        return answered(f, 0);
-    }
-    give_groups(s, out, w, o)
+    hold_named(index, named, w)?;
+    give_groups(index, out, w)
 }

@@ -3,3 +3,5 @@ pub mod Places
 pub mod Rows
 pub mod Find
 pub mod Climb
+pub mod Opened
+pub mod Opening

@@ -1,7 +1,7 @@
 -- The graph whose index the bytes are, and what they say of its links and groups by number. Assumes nothing.
-use Rattle.std.specs.Prelude.{◌≡◌, ◌⊎◌, Bool, true, false, cond, ℕ, ◌+◌, ◌*◌, ◌/◌, ◌%◌, ◌≤◌, ◌<◌, ltb, get_or}
+use Rattle.std.specs.Prelude.{Option, None, Some, unwrap_or, ◌≡◌, ◌≢◌, ◌⊎◌, Bool, true, false, cond, ℕ, ◌+◌, ◌*◌, ◌/◌, ◌%◌, ◌≤◌, ◌<◌, eqb, ltb, get_or}
 use Rattle.std.proofs.Math.Path.{refl, sym, ap}
-use Rattle.std.proofs.Common.{ap₂, ◌∙◌, subst, inl, inr, arith, ltb-true}
+use Rattle.std.proofs.Common.{ap₂, ◌∙◌, subst, inl, inr, arith, eq-eqb, ne_eqb, ltb-true}
 use mathlib.Core.List.{List}
 use Rattle.std.proofs.Math.ListN.{length, length-map}
 use Rattle.truss.specs.Limits.{min_strength, max_strength, no_group, max_accounts, max_links}
@@ -14,6 +14,7 @@ use Rattle.truss.specs.Index.{Index, LinkRow, GroupRow, link_row, group_row, ind
 use Rattle.truss.specs.IndexFile.{read_index}
 use Rattle.truss.specs.Stored.{row_at, group_row_at}
 use Rattle.laws.proofs.Lists.{test}
+use Rattle.laws.proofs.Numbers.{same_or_not}
 use Rattle.laws.proofs.Members.{get_d_in, in_member, range_length}
 use Rattle.laws.proofs.Peeling.{strength_at_least_2}
 use Rattle.laws.proofs.Bound.{strength-max}
@@ -54,6 +55,48 @@ own_group G i = (row_at (index G) i).group
 
 abbrev pub parent_of : Graph → ℕ → ℕ
 parent_of G g = (group_row_at (index G) g).parent
+
+-- the parent, if there is one
+abbrev pub parent_there : Graph → ℕ → Option ℕ
+parent_there G g = cond (eqb (parent_of G g) no_group) None (Some (parent_of G g))
+
+module _ (G : Graph) (g : ℕ) where
+  top_is : parent_of G g ≡ no_group → parent_there G g ≡ None
+  top_is e = rw (eq-eqb (parent_of G g) no_group e) refl
+
+  below_is : parent_of G g ≢ no_group → parent_there G g ≡ Some (parent_of G g)
+  below_is n = rw (ne_eqb (parent_of G g) no_group n) refl
+
+  -- by the number that the bytes have
+  pub parent_not : {x : ℕ} → x ≡ parent_of G g → x ≡ no_group → None ≡ parent_there G g
+  parent_not q z = sym (top_is (sym q ∙ z))
+
+  pub parent_some : {x : ℕ} → x ≡ parent_of G g → x ≢ no_group → Some x ≡ parent_there G g
+  parent_some q n = ap {B = Option ℕ} (λ y. Some y) q ∙ sym (below_is (λ z. n (q ∙ z)))
+
+  -- by what the look-up gives
+  module _ {r : Option ℕ} (q : r ≡ parent_there G g) where
+    pub parent_none : r ≡ None → parent_of G g ≡ no_group
+    parent_none h = go (same_or_not (parent_of G g) no_group)
+      where
+        go : (parent_of G g ≡ no_group) ⊎ (parent_of G g ≢ no_group) → parent_of G g ≡ no_group
+        go (inl e) = e
+        go (inr n) = let z : ◌≡◌ {A = Option ℕ} None (Some (parent_of G g)) = sym h ∙ q ∙ below_is n in let y : ◌≡◌ {A = ℕ} 0 1 = cc in absurd (omega arith)
+
+    pub parent_found : {p : ℕ} → r ≡ Some p → (p ≡ parent_of G g) × (p ≢ no_group)
+    parent_found {p} h = go (same_or_not (parent_of G g) no_group)
+      where
+        go : (parent_of G g ≡ no_group) ⊎ (parent_of G g ≢ no_group) → (p ≡ parent_of G g) × (p ≢ no_group)
+        go (inl e) = let z : ◌≡◌ {A = Option ℕ} (Some p) None = sym h ∙ q ∙ top_is e in let y : ◌≡◌ {A = ℕ} 0 1 = cc in absurd (omega arith)
+        go (inr n) = let z : ◌≡◌ {A = Option ℕ} (Some p) (Some (parent_of G g)) = sym h ∙ q ∙ below_is n in let e : p ≡ parent_of G g = cc in (e, λ s. n (sym e ∙ s))
+
+    -- as a number again
+    pub parent_number : unwrap_or r no_group ≡ parent_of G g
+    parent_number = go (same_or_not (parent_of G g) no_group)
+      where
+        go : (parent_of G g ≡ no_group) ⊎ (parent_of G g ≢ no_group) → unwrap_or r no_group ≡ parent_of G g
+        go (inl e) = ap (λ o. unwrap_or o no_group) (q ∙ top_is e) ∙ sym e
+        go (inr n) = ap (λ o. unwrap_or o no_group) (q ∙ below_is n)
 
 -- its groups stand from at on
 pub record GroupsAt (b : List ℕ) (at : ℕ) : Type 0 where

@@ -16,19 +16,16 @@ fn climb(s: &[u8], at: usize, count: usize, k: usize, g: usize) -> usize
     ensures { Climbed (graph_in s.now) k g result }
 {
     let mut h = g;
-    loop {
-        let p = group_parent(s, at, h);
-        if p == NO_GROUP {
-            return h;
-        }
+    while let Some(p) = group_parent(s, at, h) {
         if group_strength(s, at, p) < k {
             return h;
         }
         h = p;
     }
+    h
 }
 
-// The number of the group at k with link i, NO_GROUP if the link's strength is below k.
+// The number of the group at k with link i, NO_GROUP if the link's strength is below k: the number that the definition gives, so that the contract is an equation with it.
 pub fn group_at(s: &[u8], at: usize, count: usize, k: usize, i: usize) -> usize
     requires groups_at { GroupsAt s.now at }
     requires s_value { group_count (graph_in s.now) ≡ count }

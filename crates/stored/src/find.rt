@@ -1,7 +1,8 @@
 // The number of the link of two accounts.
 ghost use Rattle.std.specs.Prelude.{◌≡◌, ◌<◌};
 ghost use Rattle.laws.proofs.Groups.{size};
-ghost use Rattle.truss.specs.Graph.{link, link_at, link_number, same_link};
+ghost use Rattle.truss.specs.Graph.{link, link_at, same_link};
+ghost use Rattle.stored.specs.Find.{number_there};
 ghost use Rattle.stored.specs.Rows.{graph_in, IsIndex};
 
 use crate::rows::{link_higher, link_lower};
@@ -18,27 +19,25 @@ fn has_ends(s: &[u8], i: usize, lo: usize, hi: usize) -> bool
     link_higher(s, i) == hi
 }
 
-// The number of the link with these accounts, the number of links if there is none.
-fn find_pair(s: &[u8], m: usize, lo: usize, hi: usize) -> usize
+// The number of the link with these accounts, if there is one.
+fn find_pair(s: &[u8], m: usize, lo: usize, hi: usize) -> Option<usize>
     requires index { IsIndex s.now }
     requires s_value { size (graph_in s.now) ≡ m }
-    ensures { result ≡ link_number (graph_in s.now) (record { lo = lo; hi = hi }) }
+    ensures { result ≡ number_there (graph_in s.now) (record { lo = lo; hi = hi }) }
 {
-    let mut i: usize = 0;
-    while i < m {
+    for i in 0..m {
         if has_ends(s, i, lo, hi) {
-            return i;
+            return Some(i);
         }
-        i += 1;
     }
-    m
+    None
 }
 
 // The same for two accounts in either order.
-pub fn find_link(s: &[u8], m: usize, a: usize, b: usize) -> usize
+pub fn find_link(s: &[u8], m: usize, a: usize, b: usize) -> Option<usize>
     requires index { IsIndex s.now }
     requires s_value { size (graph_in s.now) ≡ m }
-    ensures { result ≡ link_number (graph_in s.now) (link a b) }
+    ensures { result ≡ number_there (graph_in s.now) (link a b) }
 {
     if a < b {
         return find_pair(s, m, a, b);

@@ -5,10 +5,13 @@ ghost use Rattle.laws.proofs.Stored.{group_count, stored};
 ghost use Rattle.truss.specs.Graph.{link_at};
 ghost use Rattle.truss.specs.Group.{least_link};
 ghost use Rattle.columns.specs.Columns.{entry_bound};
-ghost use Rattle.stored.specs.Rows.{graph_in, key_at, own_group, parent_of, GroupsAt, IsIndex};
+ghost use Rattle.stored.specs.Rows.{graph_in, key_at, own_group, parent_there, GroupsAt, IsIndex};
 
 use columns::HALF;
-use wire::{field_at, wide};
+use limits::NO_GROUP;
+use wire::field_at;
+
+// One function for each field: its contract names the field, and a place as an argument would have to be said in numbers by each caller.
 
 // The lower account of link i.
 pub fn link_lower(s: &[u8], i: usize) -> usize
@@ -45,7 +48,7 @@ pub fn link_strength(s: &[u8], i: usize) -> usize
     requires i_bound { i < size (graph_in s.now) }
     ensures { (result ≡ strength_at (graph_in s.now) i) × (result < 65536) }
 {
-    wide(s[5 + 8 * i + 5])
+    usize::from(s[5 + 8 * i + 5])
 }
 
 // The group at its own strength.
@@ -57,13 +60,17 @@ pub fn link_group(s: &[u8], i: usize) -> usize
     field_at(s, 5 + 8 * i + 6)
 }
 
-// The parent of group g.
-pub fn group_parent(s: &[u8], at: usize, g: usize) -> usize
+// The parent of group g, if it has one.
+pub fn group_parent(s: &[u8], at: usize, g: usize) -> Option<usize>
     requires groups_at { GroupsAt s.now at }
     requires g_bound { g < group_count (graph_in s.now) }
-    ensures { result ≡ parent_of (graph_in s.now) g }
+    ensures { result ≡ parent_there (graph_in s.now) g }
 {
-    field_at(s, at + 6 * g + 1)
+    let p = field_at(s, at + 6 * g + 1);
+    if p == NO_GROUP {
+        return None;
+    }
+    Some(p)
 }
 
 // Its strength.
@@ -72,7 +79,7 @@ pub fn group_strength(s: &[u8], at: usize, g: usize) -> usize
     requires g_bound { g < group_count (graph_in s.now) }
     ensures { (result ≡ (stored (graph_in s.now) g).strength) × (result < 65536) }
 {
-    wide(s[at + 6 * g + 3])
+    usize::from(s[at + 6 * g + 3])
 }
 
 // Its least link.

@@ -15,12 +15,10 @@ fn fill(w: &mut [u32], m: usize, pairs: &[u8])
     requires m_in_bounds { 3 * m ≤ length pairs.now }
     requires m_le_most_small { m ≤ most_small }
 {
-    let mut i: usize = 0;
-    while i < m {
+    for i in 0..m {
         let a = (pairs[3 * i] % 16) as usize;
         let b = (pairs[3 * i + 1] % 16) as usize;
         put(w, m, KEY, i, a * HALF + b);
-        i += 1;
     }
 }
 
@@ -31,19 +29,7 @@ fn good(w: &[u32], m: usize, n: usize, i: usize) -> bool
     ensures { result ≡ true → Good m n i w.now }
 {
     let k = get(w, m, KEY, i);
-    if k % HALF <= k / HALF {
-        return false;
-    }
-    if n <= k % HALF {
-        return false;
-    }
-    if i == 0 {
-        return true;
-    }
-    if k <= get(w, m, KEY, i - 1) {
-        return false;
-    }
-    true
+    k / HALF < k % HALF && k % HALF < n && (i == 0 || get(w, m, KEY, i - 1) < k)
 }
 
 // All links are so.
@@ -52,12 +38,10 @@ fn rising(w: &[u32], m: usize, n: usize) -> bool
     requires m_le_most_small { m ≤ most_small }
     ensures { result ≡ true → Rising m n m w.now }
 {
-    let mut i: usize = 0;
-    while i < m {
+    for i in 0..m {
         if !good(w, m, n, i) {
             return false;
         }
-        i += 1;
     }
     true
 }
@@ -99,10 +83,7 @@ fn room() -> [u32; WORK] {
 
 fn show(rt: &impl Print, pairs: &[u8], n: usize) -> io::Result<()> {
     let m = pairs.len() / 3;
-    if SMALL < m {
-        return Ok(());
-    }
-    if SMALL < n {
+    if SMALL < m || SMALL < n {
         return Ok(());
     }
     let mut work = room();

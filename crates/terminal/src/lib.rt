@@ -4,11 +4,11 @@
 ghost use Rattle.std.specs.Prelude.{[]};
 ghost use Rattle.truss.specs.Change.{put_in, withdraw};
 ghost use Rattle.truss.specs.Question.{ask_all, ask_chain, ask_groups_at, ask_joined, ask_links, ask_strength, ask_strongest};
-ghost use Rattle.index.specs.Build.{BuildGives};
-ghost use Rattle.index.specs.Read.{ReadGives};
-ghost use Rattle.desk.specs.DeskBytes.{AskBytesGives};
-ghost use Rattle.changes.specs.Calls.{ChangeGives};
-ghost use Rattle.trial.specs.Trial.{BytesGives};
+ghost use Rattle.index.specs.Build.{BuildReplies};
+ghost use Rattle.index.specs.Read.{ReadReplies};
+ghost use Rattle.desk.specs.DeskBytes.{AskBytesReplies};
+ghost use Rattle.changes.specs.Calls.{ChangeReplies};
+ghost use Rattle.trial.specs.Trial.{BytesReplies};
 
 use desk::{ask_bytes, ask_number};
 use index::Reply;
@@ -17,33 +17,33 @@ use question::answer::Question;
 // A links file into its index.
 #[unsafe(no_mangle)]
 pub extern "C" fn fe_build(links: &[u8], index: &mut [u8]) -> Reply
-    ensures { BuildGives links.now index.old result index.new }
+    ensures { BuildReplies links.now index.old result index.new }
 {
-    index::build::build(links, index)
+    Reply::from(index::build::build(links, index))
 }
 
 // An index back into its links file.
 #[unsafe(no_mangle)]
 pub extern "C" fn fe_read(index: &[u8], links: &mut [u8]) -> Reply
-    ensures { ReadGives index.now links.old result links.new }
+    ensures { ReadReplies index.now links.old result links.new }
 {
-    index::read::read(index, links)
+    Reply::from(index::read::read(index, links))
 }
 
 // Link a-b put in: the index of the altered links.
 #[unsafe(no_mangle)]
 pub extern "C" fn fe_put_in(index: &[u8], a: u32, b: u32, out: &mut [u8]) -> Reply
-    ensures { ChangeGives (put_in a b) index.now out.old result out.new }
+    ensures { ChangeReplies (put_in a b) index.now out.old result out.new }
 {
-    changes::put_in(index, out, a as usize, b as usize)
+    Reply::from(changes::put_in(index, out, a as usize, b as usize))
 }
 
 // Link a-b withdrawn: the index of the altered links.
 #[unsafe(no_mangle)]
 pub extern "C" fn fe_withdraw(index: &[u8], a: u32, b: u32, out: &mut [u8]) -> Reply
-    ensures { ChangeGives (withdraw a b) index.now out.old result out.new }
+    ensures { ChangeReplies (withdraw a b) index.now out.old result out.new }
 {
-    changes::withdraw(index, out, a as usize, b as usize)
+    Reply::from(changes::withdraw(index, out, a as usize, b as usize))
 }
 
 // A stake limit tried at level k on a day's records: a byte for each record, and the closing margin of each group at k.
@@ -56,17 +56,17 @@ pub extern "C" fn fe_try_limit(
     taken: &mut [u8],
     margins: &mut [u8],
 ) -> Reply
-    ensures { BytesGives index.now records.now k limit taken.old margins.old result taken.new margins.new }
+    ensures { BytesReplies index.now records.now k limit taken.old margins.old result taken.new margins.new }
 {
-    bets::bytes::try_bytes(index, records, k, limit, taken, margins)
+    Reply::from(bets::bytes::try_bytes(index, records, k, limit, taken, margins))
 }
 
 // A. The strength of link a-b, and how many triangles of at least that weight hold it.
 #[unsafe(no_mangle)]
 pub extern "C" fn fe_strength(index: &[u8], a: u32, b: u32, window: u32, desk: &mut [u8]) -> Reply
-    ensures { AskBytesGives index.now (ask_strength a b) [] window desk.old result [] desk.new }
+    ensures { AskBytesReplies index.now (ask_strength a b) [] window desk.old result [] desk.new }
 {
-    ask_number(index, Question::Strength { a, b }, window, desk)
+    Reply::from(ask_number(index, Question::Strength { a, b }, window, desk))
 }
 
 // B. The largest k at which links a-b and c-d are joined, 0 if none.
@@ -80,9 +80,9 @@ pub extern "C" fn fe_joined(
     window: u32,
     desk: &mut [u8],
 ) -> Reply
-    ensures { AskBytesGives index.now (ask_joined a b c d) [] window desk.old result [] desk.new }
+    ensures { AskBytesReplies index.now (ask_joined a b c d) [] window desk.old result [] desk.new }
 {
-    ask_number(index, Question::Joined { a, b, c, d }, window, desk)
+    Reply::from(ask_number(index, Question::Joined { a, b, c, d }, window, desk))
 }
 
 // C. The groups at k that hold all named accounts.
@@ -95,16 +95,16 @@ pub extern "C" fn fe_groups_at(
     window: u32,
     desk: &mut [u8],
 ) -> Reply
-    ensures { AskBytesGives index.now (ask_groups_at k accounts.now) answer.old window desk.old result answer.new desk.new }
+    ensures { AskBytesReplies index.now (ask_groups_at k accounts.now) answer.old window desk.old result answer.new desk.new }
 {
-    ask_bytes(
+    Reply::from(ask_bytes(
         index,
         accounts,
         answer,
         Question::GroupsAt { k },
         window,
         desk,
-    )
+    ))
 }
 
 // D. Of the stored groups that hold all of them, those whose strength is greatest.
@@ -116,16 +116,16 @@ pub extern "C" fn fe_strongest_groups(
     window: u32,
     desk: &mut [u8],
 ) -> Reply
-    ensures { AskBytesGives index.now (ask_strongest accounts.now) answer.old window desk.old result answer.new desk.new }
+    ensures { AskBytesReplies index.now (ask_strongest accounts.now) answer.old window desk.old result answer.new desk.new }
 {
-    ask_bytes(
+    Reply::from(ask_bytes(
         index,
         accounts,
         answer,
         Question::StrongestGroups,
         window,
         desk,
-    )
+    ))
 }
 
 // E. All stored groups that hold all of them.
@@ -137,9 +137,9 @@ pub extern "C" fn fe_all_groups(
     window: u32,
     desk: &mut [u8],
 ) -> Reply
-    ensures { AskBytesGives index.now (ask_all accounts.now) answer.old window desk.old result answer.new desk.new }
+    ensures { AskBytesReplies index.now (ask_all accounts.now) answer.old window desk.old result answer.new desk.new }
 {
-    ask_bytes(index, accounts, answer, Question::AllGroups, window, desk)
+    Reply::from(ask_bytes(index, accounts, answer, Question::AllGroups, window, desk))
 }
 
 // F. The links of the group at k with link a-b; none if its strength is below k.
@@ -153,16 +153,16 @@ pub extern "C" fn fe_group_links(
     window: u32,
     desk: &mut [u8],
 ) -> Reply
-    ensures { AskBytesGives index.now (ask_links k a b) answer.old window desk.old result answer.new desk.new }
+    ensures { AskBytesReplies index.now (ask_links k a b) answer.old window desk.old result answer.new desk.new }
 {
-    ask_bytes(
+    Reply::from(ask_bytes(
         index,
-        &index[..0],
+        &[],
         answer,
         Question::GroupLinks { a, b, k },
         window,
         desk,
-    )
+    ))
 }
 
 // G. The shortest chain of triangles of weight at least k from link a-b to link c-d; none if there is no chain.
@@ -178,14 +178,14 @@ pub extern "C" fn fe_chain(
     window: u32,
     desk: &mut [u8],
 ) -> Reply
-    ensures { AskBytesGives index.now (ask_chain k a b c d) answer.old window desk.old result answer.new desk.new }
+    ensures { AskBytesReplies index.now (ask_chain k a b c d) answer.old window desk.old result answer.new desk.new }
 {
-    ask_bytes(
+    Reply::from(ask_bytes(
         index,
-        &index[..0],
+        &[],
         answer,
         Question::Chain { a, b, c, d, k },
         window,
         desk,
-    )
+    ))
 }

@@ -1,7 +1,8 @@
 -- A day tried on an index: what the calls promise, and the ways to it. Assumes nothing.
-use Rattle.std.specs.Prelude.{◌≡◌, ◌⊎◌, ◌≢◌, Bool, true, false, ◌||◌, ℕ, ◌+◌, ◌*◌, ◌/◌, ◌≤◌, ◌<◌, ltb, ◌-ℤ◌}
+use Rattle.std.specs.Prelude.{Result, Ok, Err, IsErrAnd, ◌≡◌, ◌⊎◌, ◌≢◌, Bool, true, false, ◌||◌, ℕ, ◌+◌, ◌*◌, ◌/◌, ◌≤◌, ◌<◌, ltb, ◌-ℤ◌}
 use Rattle.std.proofs.Math.Path.{refl, sym, ap}
-use Rattle.std.proofs.Common.{ap₂, ◌∙◌, inl, inr, arith, lt-ltb, le-ltb, ltb-false}
+use Rattle.std.proofs.Common.{subst, ap₂, ◌∙◌, inl, inr, arith, lt-ltb, le-ltb, ltb-false}
+use Rattle.std.proofs.lemmas.Result.{err_from_is_err_and}
 use mathlib.Core.List.{List}
 use Rattle.std.proofs.Math.Dec.{eqb}
 use Rattle.std.proofs.Math.ListN.{length, get_or, length-map}
@@ -14,7 +15,7 @@ use Rattle.truss.specs.Group.{Group, groups}
 use Rattle.truss.specs.Refusal.{Checked, passed, refuse, refuse_if, and_then}
 use Rattle.truss.specs.IndexFile.{read_index}
 use Rattle.truss.specs.Question.{is_group_at, holds, empty_group, numbers_of}
-use Rattle.truss.specs.Call.{Reply, done, overwrite}
+use Rattle.truss.specs.Call.{done, overwrite}
 use Rattle.truss.specs.Bets.{DayRecord, bet, limit_after, stakes_taken, margin_of, groups_of, Day, day_of, check_day, checked_day, Tried, settle_day, try_limit, record_at, records_in, margin_bytes, try_limit_bytes}
 use Rattle.laws.proofs.Lists.{or_left_false}
 use Rattle.laws.proofs.Members.{get_d_in, range_in}
@@ -22,86 +23,106 @@ use Rattle.laws.proofs.Answers.{numbers_in}
 use Rattle.laws.proofs.Sets.{filter_same, map_range_at, map_at}
 use Rattle.laws.proofs.Stored.{group_count, stored}
 use Rattle.laws.proofs.Bets.{day_bytes, bytes_length, groups_by_number}
+use Rattle.limits.specs.declared.refusal.Refusal.{Refusal}
+use Rattle.limits.specs.declared.refusal.Refusal.TheVariants.{NoRoom}
+use Rattle.limits.specs.Refusals.{number_of, checked}
 use Rattle.columns.specs.Columns.{cell, entry, entry_bound, link_bound, COLUMNS}
 use Rattle.columns.specs.Wiping.{zeros, zeros-length, zeros_at}
 use Rattle.adjacency.specs.State.{entry-cell}
-use Rattle.wire.specs.Writing.{written, written_start, written-length}
+use Rattle.wire.specs.Writing.{written, written_start}
 use Rattle.index.specs.declared.Reply.{Reply as CReply}
-use Rattle.index.specs.declared.open.Outline.{Outline}
-use Rattle.index.specs.Build.{Replies, reply_in, reply_same}
-use Rattle.stored.specs.Rows.{graph_in, Outlined, few_accounts, shape_sized, sized_few}
+use Rattle.index.specs.Build.{reply_in, reply_of}
+use Rattle.index.specs.Answered.{number_not_0}
+use Rattle.stored.specs.declared.opened.Index.{Index}
+use Rattle.stored.specs.Opening.{graph, handed}
+use Rattle.stored.specs.Rows.{few_links, few_accounts, shape_sized, sized_few}
 use Rattle.pools.specs.Pools.{TOP, PoolRows}
 use Rattle.day.specs.Records.{records-length, record_here}
-use Rattle.day.specs.Checks.{day_fault, day_checked, no_fault}
+use Rattle.day.specs.Checks.{day_fault, fault_number, fault_ok, fault_err, day_checked, no_fault}
 use Rattle.day.specs.Sums.{SUM}
 use Rattle.day.specs.Playing.{PlayAsks, Played, row_kept}
+use Rattle.trial.specs.declared.Closing.{Closing}
 use Rattle.margins.specs.Margins.{LEVEL, tops_of, Listed, RowGiven, margin_in, margins_in, margins_length}
 
--- a reply of the code, and both buffers after the call, in the definitions' words
-abbrev pub tried_in : {A : Type 0} → CReply → List ℕ → List A → Tried A
-tried_in r taken margins = record { reply = reply_in r; taken = taken; margins = margins }
+-- a call's result, and both buffers after it, in the definitions' words
+abbrev pub tried_by : {A : Type 0} → Checked ℕ → List ℕ → List A → Tried A
+tried_by given taken margins = record { reply = reply_of given; taken = taken; margins = margins }
+
+-- an index has few links
+pub few_m : (x : Index) → x.m ≤ max_links
+few_m x = omega (arith, x.shape.links, few_links x.shape.groups_at_lem.is_index)
 
 -- the checks of a day, on the links of an index
 abbrev pub day_in : Graph → ℕ → ℕ → List DayRecord → ℕ → ℕ → Checked Day
 day_in G k opening rs takenRoom marginRoom = and_then (check_day G k opening rs) (λ d. refuse_if (ltb takenRoom (length d.taken) || ltb marginRoom (length d.margins)) 12 0 (passed d))
 
--- THE PROMISE of a trial from C: its reply and every byte of both buffers are what the definition gives. Index and records are lent to read.
-abbrev pub BytesGives : List ℕ → List ℕ → ℕ → ℕ → List ℕ → List ℕ → CReply → List ℕ → List ℕ → Type 0
-BytesGives index records k limit taken margins r taken' margins' = tried_in r taken' margins' ≡ try_limit_bytes index k limit records taken margins
+-- THE PROMISE of a trial from C: its result and every byte of both buffers are what the definition gives. Index and records are lent to read.
+abbrev pub BytesGives : List ℕ → List ℕ → ℕ → ℕ → List ℕ → List ℕ → Result ℕ Refusal → List ℕ → List ℕ → Type 0
+BytesGives index records k limit taken margins r taken' margins' = tried_by (checked r) taken' margins' ≡ try_limit_bytes index k limit records taken margins
+
+-- the same of a reply to a C host
+abbrev pub BytesReplies : List ℕ → List ℕ → ℕ → ℕ → List ℕ → List ℕ → CReply → List ℕ → List ℕ → Type 0
+BytesReplies index records k limit taken margins r taken' margins' = ◌≡◌ {A = Tried ℕ} (record { reply = reply_in r; taken = taken'; margins = margins' }) (try_limit_bytes index k limit records taken margins)
 
 -- the same on the links that were read, and with margins as numbers
-abbrev pub BytesOf : Graph → List DayRecord → ℕ → ℕ → List ℕ → List ℕ → CReply → List ℕ → List ℕ → Type 0
-BytesOf G rs k limit taken margins r taken' margins' = tried_in r taken' margins' ≡ settle_day (concat_map margin_bytes) (day_in G k limit rs (length taken) (length margins / margin_length)) taken margins
+abbrev pub BytesOf : Graph → List DayRecord → ℕ → ℕ → List ℕ → List ℕ → Result ℕ Refusal → List ℕ → List ℕ → Type 0
+BytesOf G rs k limit taken margins r taken' margins' = tried_by (checked r) taken' margins' ≡ settle_day (concat_map margin_bytes) (day_in G k limit rs (length taken) (length margins / margin_length)) taken margins
 
-abbrev pub NumbersOf : Graph → List DayRecord → ℕ → ℕ → List ℕ → List ℤ → CReply → List ℕ → List ℤ → Type 0
-NumbersOf G rs k limit taken margins r taken' margins' = tried_in r taken' margins' ≡ settle_day (λ zs. zs) (day_in G k limit rs (length taken) (length margins)) taken margins
+abbrev pub NumbersOf : Graph → List DayRecord → ℕ → ℕ → List ℕ → List ℤ → Result ℕ Refusal → List ℕ → List ℤ → Type 0
+NumbersOf G rs k limit taken margins r taken' margins' = tried_by (checked r) taken' margins' ≡ settle_day (λ zs. zs) (day_in G k limit rs (length taken) (length margins)) taken margins
 
 -- ---- 7, and the call by the links
 
 module _ (b : List ℕ) (k limit : ℕ) (taken : List ℕ) where
-  pub bytes_7 : (records margins : List ℕ) {r : CReply} → read_index b ≡ refuse 7 0 → Replies r 7 0 → BytesGives b records k limit taken margins r taken margins
-  unfolding try_limit_bytes checked_day and_then settle_day
-  bytes_7 records margins e R = ap (λ (x : Reply). record { reply = x; taken = taken; margins = margins }) (reply_same R) ∙ rw (e, and_then, settle_day) refl
+  pub bytes_7 : (records margins : List ℕ) (r : Result ℕ Refusal) → read_index b ≡ refuse 7 0 → checked r ≡ refuse 7 0 → BytesGives b records k limit taken margins r taken margins
+  unfolding try_limit_bytes checked_day and_then settle_day reply_of
+  bytes_7 records margins r e R = ap (λ x. tried_by x taken margins) R ∙ rw (e, and_then, settle_day) refl
 
-  pub bytes_of : (records margins : List ℕ) {G : Graph} {r : CReply} {taken' margins' : List ℕ} → read_index b ≡ passed G → BytesOf G (records_in records) k limit taken margins r taken' margins'
+  pub bytes_of : (records margins : List ℕ) {G : Graph} (r : Result ℕ Refusal) {taken' margins' : List ℕ} → read_index b ≡ passed G → BytesOf G (records_in records) k limit taken margins r taken' margins'
       → BytesGives b records k limit taken margins r taken' margins'
   unfolding try_limit_bytes checked_day and_then
-  bytes_of records margins e B = B ∙ rw (e, and_then) refl
+  bytes_of records margins r e B = B ∙ rw (e, and_then) refl
 
-  pub numbers_7 : (rs : List DayRecord) (margins : List ℤ) {r : CReply} → read_index b ≡ refuse 7 0 → Replies r 7 0 → tried_in r taken margins ≡ try_limit b k limit rs taken margins
-  unfolding try_limit checked_day and_then settle_day
-  numbers_7 rs margins e R = ap (λ (x : Reply). record { reply = x; taken = taken; margins = margins }) (reply_same R) ∙ rw (e, and_then, settle_day) refl
+  pub numbers_7 : (rs : List DayRecord) (margins : List ℤ) (r : Result ℕ Refusal) → read_index b ≡ refuse 7 0 → checked r ≡ refuse 7 0 → tried_by (checked r) taken margins ≡ try_limit b k limit rs taken margins
+  unfolding try_limit checked_day and_then settle_day reply_of
+  numbers_7 rs margins r e R = ap (λ x. tried_by x taken margins) R ∙ rw (e, and_then, settle_day) refl
 
-  pub numbers_of_lem : (rs : List DayRecord) (margins : List ℤ) {G : Graph} {r : CReply} {taken' : List ℕ} {margins' : List ℤ} → read_index b ≡ passed G → NumbersOf G rs k limit taken margins r taken' margins'
-      → tried_in r taken' margins' ≡ try_limit b k limit rs taken margins
+  pub numbers_of_lem : (rs : List DayRecord) (margins : List ℤ) {G : Graph} (r : Result ℕ Refusal) {taken' : List ℕ} {margins' : List ℤ} → read_index b ≡ passed G → NumbersOf G rs k limit taken margins r taken' margins'
+      → tried_by (checked r) taken' margins' ≡ try_limit b k limit rs taken margins
   unfolding try_limit checked_day and_then
-  numbers_of_lem rs margins e B = B ∙ rw (e, and_then) refl
+  numbers_of_lem rs margins r e B = B ∙ rw (e, and_then) refl
 
 -- ---- a day without a fault, played
 
 -- no fault, and room for the bytes
-pub record CloseAsks (s : List ℕ) (o : Outline) (records : List ℕ) (count k opening : ℕ) (taken w : List ℕ) : Type 0 where
-  pub shape : Outlined s o
-  pub blank : w ≡ zeros (COLUMNS * o.m)
+pub record CloseAsks (x : Index) (records : List ℕ) (count k opening : ℕ) (taken w : List ℕ) : Type 0 where
+  pub blank : w ≡ zeros (COLUMNS * x.m)
   pub level : min_level ≤ k
   pub is_count : length records / record_length ≡ count
   pub in_range : count ≤ max_records
-  pub inside : (i a x : ℕ) → i < count → record_at records (i * record_length) ≡ bet a x → a < o.n
+  pub inside : (i a s : ℕ) → i < count → record_at records (i * record_length) ≡ bet a s → a < x.n
   pub room : count ≤ length taken
   pub limited : opening < entry_bound
 
+-- what was played: a byte of each record, the groups at k by number, and what their margins are read from
+pub record PlayedOut (G : Graph) (m : ℕ) (rs : List DayRecord) (k opening : ℕ) (taken taken' : List ℕ) (c : Closing) (w : List ℕ) : Type 0 where
+  pub bytes : taken' ≡ written taken 0 (day_bytes G k opening rs)
+  pub count : c.groups ≡ length (groups_of G k)
+  pub few : c.groups ≤ m
+  pub row : RowGiven m c.groups c.limit w
+  pub margins : margins_in w m c.limit c.groups ≡ (day_of G k opening rs).margins
+
 -- what is played, or 12 for the margins
-pub data CloseGives (G : Graph) (m : ℕ) (rs : List DayRecord) (k opening room : ℕ) (taken taken' : List ℕ) (refusal groups limit : ℕ) (w : List ℕ) : Type 0 where
-  short : refusal ≡ 12 → room < length (groups_of G k) → taken' ≡ taken → CloseGives G m rs k opening room taken taken' refusal groups limit w
-  closed : refusal ≡ 0 → length (groups_of G k) ≤ room → taken' ≡ written taken 0 (day_bytes G k opening rs) → groups ≡ length (groups_of G k) → groups ≤ m → RowGiven m groups limit w
-      → margins_in w m limit groups ≡ (day_of G k opening rs).margins → CloseGives G m rs k opening room taken taken' refusal groups limit w
+pub data CloseGives (G : Graph) (m : ℕ) (rs : List DayRecord) (k opening room : ℕ) (taken taken' : List ℕ) (r : Result Closing Refusal) (w : List ℕ) : Type 0 where
+  short : r ≡ Err NoRoom → room < length (groups_of G k) → taken' ≡ taken → CloseGives G m rs k opening room taken taken' r w
+  closed : (c : Closing) → r ≡ Ok c → length (groups_of G k) ≤ room → PlayedOut G m rs k opening taken taken' c w → CloseGives G m rs k opening room taken taken' r w
 
 -- ---- a day with its checks
 
-pub data InGives (G : Graph) (m : ℕ) (rs : List DayRecord) (k opening room : ℕ) (taken taken' : List ℕ) (refusal groups limit : ℕ) (w : List ℕ) : Type 0 where
-  refuses : refusal ≢ 0 → day_in G k opening rs (length taken) room ≡ refuse refusal 0 → taken' ≡ taken → InGives G m rs k opening room taken taken' refusal groups limit w
-  passes : refusal ≡ 0 → day_in G k opening rs (length taken) room ≡ passed (day_of G k opening rs) → length (day_bytes G k opening rs) ≤ length taken → taken' ≡ written taken 0 (day_bytes G k opening rs) → groups ≡ length (groups_of G k) → groups ≤ m
-      → length (groups_of G k) ≤ room → RowGiven m groups limit w → margins_in w m limit groups ≡ (day_of G k opening rs).margins → InGives G m rs k opening room taken taken' refusal groups limit w
+pub data InGives (G : Graph) (m : ℕ) (rs : List DayRecord) (k opening room : ℕ) (taken taken' : List ℕ) (r : Result Closing Refusal) (w : List ℕ) : Type 0 where
+  refuses : (e : Refusal) → r ≡ Err e → day_in G k opening rs (length taken) room ≡ refuse (number_of e) 0 → taken' ≡ taken → InGives G m rs k opening room taken taken' r w
+  passes : (c : Closing) → r ≡ Ok c → day_in G k opening rs (length taken) room ≡ passed (day_of G k opening rs) → length (day_bytes G k opening rs) ≤ length taken → length (groups_of G k) ≤ room
+      → PlayedOut G m rs k opening taken taken' c w → InGives G m rs k opening room taken taken' r w
 
 -- ---- the groups at k by number, listed
 
@@ -197,10 +218,10 @@ module _ {G : Graph} {k n m count t : ℕ} {w w' start end : List ℕ} (P : Pool
 
 -- ---- the checks
 
-module _ (G : Graph) (m : ℕ) (rs : List DayRecord) (k opening room : ℕ) (taken : List ℕ) {n f : ℕ} (accounts : G.n ≡ n) (q : f ≡ day_fault n k opening rs) where
-  cases : ((f ≡ 0) × (check_day G k opening rs ≡ passed (day_of G k opening rs))) ⊎ ((f ≢ 0) × (check_day G k opening rs ≡ refuse f 0))
-  cases = day_checked G k opening rs (q ∙ ap (λ (x : ℕ). day_fault x k opening rs) (sym accounts))
+is_err : {A : Type 0} (r : Result A Refusal) {e : Refusal} → IsErrAnd r (λ x. x ≡ e) → r ≡ Err e
+is_err {A} r h = let p = err_from_is_err_and r h in p.1 ∙ ap {B = Result A Refusal} (λ x. Err x) p.2
 
+module _ (G : Graph) (m : ℕ) (rs : List DayRecord) (k opening room : ℕ) (taken : List ℕ) where
   taken_long : length (day_of G k opening rs).taken ≡ length rs
   unfolding day_of
   taken_long = bytes_length G k opening rs
@@ -209,154 +230,142 @@ module _ (G : Graph) (m : ℕ) (rs : List DayRecord) (k opening room : ℕ) (tak
   unfolding day_of
   margins_long = length-map (groups_of G k) (λ g. margin_of (holds G g) opening rs (day_bytes G k opening rs))
 
-  pub in_refused : {groups limit : ℕ} {w : List ℕ} → f ≢ 0 → InGives G m rs k opening room taken taken f groups limit w
-  unfolding and_then
-  in_refused d = refuses d (go cases) refl
-    where
-      go : ((f ≡ 0) × (check_day G k opening rs ≡ passed (day_of G k opening rs))) ⊎ ((f ≢ 0) × (check_day G k opening rs ≡ refuse f 0)) → day_in G k opening rs (length taken) room ≡ refuse f 0
-      go (inl (z, e)) = absurd (d z)
-      go (inr (z, e)) = rw (e, and_then) refl
+  module _ {n : ℕ} (accounts : G.n ≡ n) (f : Result (Unit {0}) Refusal) (q : fault_number f ≡ day_fault n k opening rs) where
+    at_graph : fault_number f ≡ day_fault G.n k opening rs
+    at_graph = q ∙ ap (λ (x : ℕ). day_fault x k opening rs) (sym accounts)
 
-  module _ (z : f ≡ 0) where
-    is_day : check_day G k opening rs ≡ passed (day_of G k opening rs)
-    is_day = go cases
-      where
-        go : ((f ≡ 0) × (check_day G k opening rs ≡ passed (day_of G k opening rs))) ⊎ ((f ≢ 0) × (check_day G k opening rs ≡ refuse f 0)) → check_day G k opening rs ≡ passed (day_of G k opening rs)
-        go (inl (y, e)) = e
-        go (inr (d, e)) = absurd (d z)
-
-    by_room : day_in G k opening rs (length taken) room
-        ≡ refuse_if (ltb (length taken) (length (day_of G k opening rs).taken) || ltb room (length (day_of G k opening rs).margins)) 12 0 (passed (day_of G k opening rs))
+    pub in_refused : (e : Refusal) (r : Result Closing Refusal) (w : List ℕ) → f ≡ Err e → IsErrAnd r (λ x. x ≡ e) → InGives G m rs k opening room taken taken r w
     unfolding and_then
-    by_room = rw (is_day, and_then) refl
+    in_refused e r w p h = refuses e (is_err r h) (go (day_checked G k opening rs (fault_err at_graph p))) refl
+      where
+        go : ((number_of e ≡ 0) × (check_day G k opening rs ≡ passed (day_of G k opening rs))) ⊎ ((number_of e ≢ 0) × (check_day G k opening rs ≡ refuse (number_of e) 0)) → day_in G k opening rs (length taken) room ≡ refuse (number_of e) 0
+        go (inl (z, y)) = absurd (number_not_0 e z)
+        go (inr (z, y)) = rw (y, and_then) refl
 
-    right_true : (x : Bool) → (x || true) ≡ true
-    right_true true = refl
-    right_true false = refl
+    module _ {u : Unit {0}} (z : f ≡ Ok u) where
+      is_day : check_day G k opening rs ≡ passed (day_of G k opening rs)
+      is_day = go (day_checked G k opening rs (fault_ok at_graph z))
+        where
+          go : ((◌≡◌ {A = ℕ} 0 0) × (check_day G k opening rs ≡ passed (day_of G k opening rs))) ⊎ ((◌≢◌ {A = ℕ} 0 0) × (check_day G k opening rs ≡ refuse 0 0)) → check_day G k opening rs ≡ passed (day_of G k opening rs)
+          go (inl (y, e)) = e
+          go (inr (d, e)) = absurd (d refl)
 
-    pub in_short : {groups limit : ℕ} {w : List ℕ} → length taken < length rs → InGives G m rs k opening room taken taken 12 groups limit w
-    in_short l = refuses (λ e. omega (arith, e)) (by_room ∙ rw (lt-ltb (length taken) (length (day_of G k opening rs).taken) (omega (arith, l, taken_long))) refl) refl
+      by_room : day_in G k opening rs (length taken) room
+          ≡ refuse_if (ltb (length taken) (length (day_of G k opening rs).taken) || ltb room (length (day_of G k opening rs).margins)) 12 0 (passed (day_of G k opening rs))
+      unfolding and_then
+      by_room = rw (is_day, and_then) refl
 
-    module _ (fits : length rs ≤ length taken) where
-      pub in_closed : {taken' : List ℕ} {refusal groups limit : ℕ} {w : List ℕ} → CloseGives G m rs k opening room taken taken' refusal groups limit w → InGives G m rs k opening room taken taken' refusal groups limit w
-      in_closed (short e l same) =
-          refuses (λ y. omega (arith, y, e))
-          (by_room ∙ rw (e, lt-ltb room (length (day_of G k opening rs).margins) (omega (arith, l, margins_long)), right_true (ltb (length taken) (length (day_of G k opening rs).taken))) refl) same
-      in_closed (closed e l bytes count few R margins) =
-          passes e
+      right_true : (x : Bool) → (x || true) ≡ true
+      right_true true = refl
+      right_true false = refl
+
+      pub in_short : (w : List ℕ) → length taken < length rs → InGives G m rs k opening room taken taken (Err NoRoom) w
+      unfolding number_of
+      in_short w l = refuses NoRoom refl (by_room ∙ rw (lt-ltb (length taken) (length (day_of G k opening rs).taken) (omega (arith, l, taken_long))) refl) refl
+
+      pub in_closed : {taken' : List ℕ} {r : Result Closing Refusal} {w : List ℕ} → length rs ≤ length taken → CloseGives G m rs k opening room taken taken' r w → InGives G m rs k opening room taken taken' r w
+      unfolding number_of
+      in_closed fits (short e l same) =
+          refuses NoRoom e (by_room ∙ rw (lt-ltb room (length (day_of G k opening rs).margins) (omega (arith, l, margins_long)), right_true (ltb (length taken) (length (day_of G k opening rs).taken))) refl) same
+      in_closed fits (closed c e l P) =
+          passes c e
           (by_room ∙ rw (le-ltb (length taken) (length (day_of G k opening rs).taken) (omega (arith, fits, taken_long)), le-ltb room (length (day_of G k opening rs).margins) (omega (arith, l, margins_long))) refl)
-          (omega (arith, fits, bytes_length G k opening rs)) bytes count few l R margins
+          (omega (arith, fits, bytes_length G k opening rs)) l P
 
 -- what a day without a fault is played on
-pub close_asks : {s : List ℕ} {o : Outline} {records taken w : List ℕ} {k opening f : ℕ} → Outlined s o → w ≡ zeros (COLUMNS * o.m) → opening < entry_bound → f ≡ day_fault o.n k opening (records_in records) → f ≡ 0
-    → length records / record_length ≤ length taken → CloseAsks s o records (length records / record_length) k opening taken w
-close_asks {s} {o} {records} {taken} {w} {k} {opening} S blank limited q z room =
-    let F = no_fault o.n k opening (records_in records) (sym z ∙ q) in
+pub close_asks : (x : Index) {records taken w : List ℕ} {k opening : ℕ} {f : Result (Unit {0}) Refusal} {u : Unit {0}} → w ≡ zeros (COLUMNS * x.m) → opening < entry_bound → fault_number f ≡ day_fault x.n k opening (records_in records)
+    → f ≡ Ok u → length records / record_length ≤ length taken → CloseAsks x records (length records / record_length) k opening taken w
+close_asks x {records} {taken} {w} {k} {opening} blank limited q z room =
+    let F = no_fault x.n k opening (records_in records) (fault_ok q z) in
     record {
-      shape = S;
       blank = blank;
       level = ltb-false k min_level (or_left_false (ltb k min_level) (ltb max_level k) F.level);
       is_count = refl;
       in_range = omega (arith, F.few, records-length records);
-      inside = λ i a x l e. F.inside i a x (omega (arith, l, records-length records)) (record_here records i l ∙ e);
+      inside = λ i a s l e. F.inside i a s (omega (arith, l, records-length records)) (record_here records i l ∙ e);
       room = room;
       limited = limited;
     }
 
--- ---- replies
+-- ---- results
 
-tried_same : {A : Type 0} {r : CReply} {a v : ℕ} {taken taken' : List ℕ} {margins margins' : List A} → Replies r a v → taken' ≡ taken → margins' ≡ margins
-    → tried_in r taken' margins' ≡ record { reply = record { refusal = a; value = v; second = 0; third = 0 }; taken = taken; margins = margins }
-tried_same R p q = let e = reply_same R in λ i. record { reply = e i; taken = p i; margins = q i }
+not_both : {A B : Type 0} {x : A} {y : B} → ◌≡◌ {A = Result A B} (Ok x) (Err y) → ⊥
+not_both q = cc
 
-module _ {G : Graph} {m : ℕ} {rs : List DayRecord} {k opening room : ℕ} {taken taken' : List ℕ} {refusal groups limit : ℕ} {w : List ℕ} (I : InGives G m rs k opening room taken taken' refusal groups limit w) where
-  pub in_length : length taken' ≡ length taken
-  in_length = go I
-    where
-      go : InGives G m rs k opening room taken taken' refusal groups limit w → length taken' ≡ length taken
-      go (refuses d e same) = ap length same
-      go (passes z e fits bytes c f l R q) = ap length bytes ∙ written-length taken 0 (day_bytes G k opening rs) (omega (arith, fits))
-
-  -- refused
-  module _ {A : Type 0} (write : List ℤ → List A) (margins : List A) {r : CReply} where
-    pub gives_refused : refusal ≢ 0 → Replies r refusal 0 → tried_in r taken' margins ≡ settle_day write (day_in G k opening rs (length taken) room) taken margins
-    unfolding settle_day
-    gives_refused d R = go I
+module _ {G : Graph} {m : ℕ} {rs : List DayRecord} {k opening room : ℕ} {taken taken' : List ℕ} {t : Result Closing Refusal} {w : List ℕ} (I : InGives G m rs k opening room taken taken' t w) where
+  -- refused: what `?` hands on
+  module _ {A : Type 0} (write : List ℤ → List A) (margins : List A) where
+    pub gives_refused : (e : Refusal) (r : Result ℕ Refusal) → t ≡ Err e → IsErrAnd r (λ x. x ≡ e) → tried_by (checked r) taken' margins ≡ settle_day write (day_in G k opening rs (length taken) room) taken margins
+    unfolding settle_day reply_of
+    gives_refused e r p h = go I
       where
-        go : InGives G m rs k opening room taken taken' refusal groups limit w → tried_in r taken' margins ≡ settle_day write (day_in G k opening rs (length taken) room) taken margins
-        go (refuses x e same) = tried_same R same refl ∙ rw e refl
-        go (passes z e fits bytes c f l S q) = absurd (d z)
+        go : InGives G m rs k opening room taken taken' t w → tried_by (checked r) taken' margins ≡ settle_day write (day_in G k opening rs (length taken) room) taken margins
+        go (refuses x y d same) =
+            let z : x ≡ e = cc in
+            rw (handed r e h, d, same, z) refl
+        go (passes c y d fits l P) = absurd (not_both (sym y ∙ p))
 
-  -- and done: what is asked for the margins, and what is given
-  module _ (z : refusal ≡ 0) where
-    pub closing_row : RowGiven m groups limit w
-    closing_row = go I
+  -- done: what is asked for the margins, and what is given
+  module _ {c : Closing} (p : t ≡ Ok c) where
+    done_in : (day_in G k opening rs (length taken) room ≡ passed (day_of G k opening rs)) × (length (groups_of G k) ≤ room) × PlayedOut G m rs k opening taken taken' c w
+    done_in = go I
       where
-        go : InGives G m rs k opening room taken taken' refusal groups limit w → RowGiven m groups limit w
-        go (refuses x e same) = absurd (x z)
-        go (passes y e fits bytes c f l S q) = S
+        go : InGives G m rs k opening room taken taken' t w → (day_in G k opening rs (length taken) room ≡ passed (day_of G k opening rs)) × (length (groups_of G k) ≤ room) × PlayedOut G m rs k opening taken taken' c w
+        go (refuses x y d same) = absurd (not_both (sym p ∙ y))
+        go (passes x y d fits l P) =
+            let z : x ≡ c = cc in
+            (d, l, subst (λ (v : Closing). PlayedOut G m rs k opening taken taken' v w) z P)
 
-    pub closing_room : (groups ≤ room) × (groups ≤ m)
-    closing_room = go I
-      where
-        go : InGives G m rs k opening room taken taken' refusal groups limit w → (groups ≤ room) × (groups ≤ m)
-        go (refuses x e same) = absurd (x z)
-        go (passes y e fits bytes c f l S q) = (omega (arith, c, l), f)
+    pub closing_row : RowGiven m c.groups c.limit w
+    closing_row = done_in.2.row
 
-    module _ {A : Type 0} (write : List ℤ → List A) (margins : List A) {r : CReply} {margins' : List A} where
-      pub gives_done : Replies r 0 groups → margins' ≡ overwrite (write (margins_in w m limit groups)) margins → tried_in r taken' margins' ≡ settle_day write (day_in G k opening rs (length taken) room) taken margins
-      unfolding settle_day day_of
-      gives_done R e = go I
-        where
-          go : InGives G m rs k opening room taken taken' refusal groups limit w → tried_in r taken' margins' ≡ settle_day write (day_in G k opening rs (length taken) room) taken margins
-          go (refuses x y same) = absurd (x z)
-          go (passes y p fits bytes c f l S q) =
-              tried_same R (bytes ∙ written_start taken (day_bytes G k opening rs)) (e ∙ ap (λ (zs : List ℤ). overwrite (write zs) margins) q)
-              ∙ rw p (ap (λ (v : ℕ). record { reply = done v; taken = overwrite (day_of G k opening rs).taken taken; margins = overwrite (write (day_of G k opening rs).margins) margins }) (margins_count c))
-            where
-              margins_count : groups ≡ length (groups_of G k) → groups ≡ length (day_of G k opening rs).margins
-              margins_count c = c ∙ sym (length-map (groups_of G k) (λ g. margin_of (holds G g) opening rs (day_bytes G k opening rs)))
+    pub closing_room : (c.groups ≤ room) × (c.groups ≤ m)
+    closing_room = (omega (arith, done_in.2.count, done_in.1), done_in.2.few)
+
+    module _ {A : Type 0} (write : List ℤ → List A) (margins : List A) where
+      pub gives_done : {margins' : List A} → margins' ≡ overwrite (write (margins_in w m c.limit c.groups)) margins → tried_by (checked (Ok c.groups)) taken' margins' ≡ settle_day write (day_in G k opening rs (length taken) room) taken margins
+      unfolding settle_day day_of reply_of checked
+      gives_done {margins'} e =
+          let n : c.groups ≡ length (day_of G k opening rs).margins = done_in.2.count ∙ sym (length-map (groups_of G k) (λ g. margin_of (holds G g) opening rs (day_bytes G k opening rs))) in
+          let x : taken' ≡ overwrite (day_of G k opening rs).taken taken = done_in.2.bytes ∙ written_start taken (day_bytes G k opening rs) in
+          let y : margins' ≡ overwrite (write (day_of G k opening rs).margins) margins = e ∙ ap (λ (zs : List ℤ). overwrite (write zs) margins) done_in.2.margins in
+          rw done_in.0 (λ i. record { reply = done (n i); taken = x i; margins = y i })
 
 -- ---- a day that is played
 
-close_length : {G : Graph} {m : ℕ} {rs : List DayRecord} {k opening room : ℕ} {taken taken' : List ℕ} {refusal groups limit : ℕ} {w : List ℕ} → length rs ≤ length taken
-    → CloseGives G m rs k opening room taken taken' refusal groups limit w → length taken' ≡ length taken
-close_length l (short e h same) = ap length same
-close_length {G} {m} {rs} {k} {opening} {taken = taken} l (closed e h bytes c f R q) = ap length bytes ∙ written-length taken 0 (day_bytes G k opening rs) (omega (arith, l, bytes_length G k opening rs))
-
-module _ {s : List ℕ} {o : Outline} {records taken w₀ : List ℕ} {count k opening : ℕ} (A : CloseAsks s o records count k opening taken w₀) where
+module _ (x : Index) {records taken w₀ : List ℕ} {count k opening : ℕ} (A : CloseAsks x records count k opening taken w₀) where
   abbrev H : Graph
-  H = graph_in s
+  H = graph x
 
-  few_groups : (o.groups ≤ o.m) × (o.m ≤ max_links)
-  few_groups = sized_few (shape_sized A.shape)
+  few_groups : (x.groups ≤ x.m) × (x.m ≤ max_links)
+  few_groups = sized_few (shape_sized x.shape)
 
-  pub few_n : o.n ≤ max_accounts
-  few_n = omega (arith, A.shape.accounts, few_accounts A.shape.groups_at_lem.is_index)
+  pub few_n : x.n ≤ max_accounts
+  few_n = omega (arith, x.shape.accounts, few_accounts x.shape.groups_at_lem.is_index)
 
-  long_enough : length (records_in records) ≤ length taken
-  long_enough = omega (arith, records-length records, A.is_count, A.room)
-
-  pub close_taken : {room refusal groups limit : ℕ} {taken' w : List ℕ} → CloseGives H o.m (records_in records) k opening room taken taken' refusal groups limit w → length taken' ≡ length taken
-  close_taken C = close_length long_enough C
-
-  module _ {w₁ start end : List ℕ} (P : PoolRows H k o.n o.m o.groups w₁ start end) where
-    pub close_size : length w₁ ≡ COLUMNS * o.m
+  module _ {w₁ start end : List ℕ} (P : PoolRows H k x.n x.m x.groups w₁ start end) where
+    pub close_size : length w₁ ≡ COLUMNS * x.m
     close_size = P.size_is
 
-    pub close_list : (o.groups ≤ o.m) × (o.m ≤ link_bound)
+    pub close_list : (x.groups ≤ x.m) × (x.m ≤ link_bound)
     close_list = (few_groups.0, omega (arith, few_groups.1))
 
-    module _ {t : ℕ} {w₂ : List ℕ} (L : Listed o.m o.groups t w₁ w₂) where
-      pub close_short : {room groups limit : ℕ} → room < t → CloseGives H o.m (records_in records) k opening room taken taken 12 groups limit w₂
-      close_short l = short refl (omega (arith, l, listed-groups P A.shape.groups L)) refl
+    module _ {t : ℕ} {w₂ : List ℕ} (L : Listed x.m x.groups t w₁ w₂) where
+      pub close_short : {room : ℕ} → room < t → CloseGives H x.m (records_in records) k opening room taken taken (Err NoRoom) w₂
+      close_short l = short refl (omega (arith, l, listed-groups P x.shape.groups L)) refl
 
-      pub close_play : {own : List ℕ} → own ≡ zeros (max_accounts + 1) → PlayAsks H k o.n o.groups o.m opening count records w₂ start end own taken
+      pub close_play : {own : List ℕ} → own ≡ zeros (max_accounts + 1) → PlayAsks H k x.n x.groups x.m opening count records w₂ start end own taken
       close_play z =
-          play_asks P A.shape.groups L (λ a l. refl) (λ a l. refl) (omega (arith, P.starts)) (omega (arith, P.ends)) few_groups.0 few_groups.1 z few_n A.is_count A.in_range A.inside A.room
+          play_asks P x.shape.groups L (λ a l. refl) (λ a l. refl) (omega (arith, P.starts)) (omega (arith, P.ends)) few_groups.0 few_groups.1 z few_n A.is_count A.in_range A.inside A.room
           A.limited
 
-      pub close_done : {room r : ℕ} {w₃ own own' taken' : List ℕ} → t ≤ room → Played H k o.n o.groups o.m opening r records w₂ w₃ own own' taken taken' → CloseGives H o.m (records_in records) k opening room taken taken' 0 t r w₃
+      pub close_done : {room r : ℕ} {w₃ own own' taken' : List ℕ} → t ≤ room → Played H k x.n x.groups x.m opening r records w₂ w₃ own own' taken taken'
+          → CloseGives H x.m (records_in records) k opening room taken taken' (Ok (record { groups = t; limit = r })) w₃
       close_done l D =
-          closed refl (omega (arith, l, listed-groups P A.shape.groups L)) D.bytes (listed-groups P A.shape.groups L) (omega (arith, L.few, few_groups.0)) (row-given P A.shape.groups L few_groups.0 few_groups.1 D)
-          (margins_are P A.shape.groups L few_groups.0 few_groups.1 D)
+          closed _ refl (omega (arith, l, listed-groups P x.shape.groups L)) (record {
+            bytes = D.bytes;
+            count = listed-groups P x.shape.groups L;
+            few = omega (arith, L.few, few_groups.0);
+            row = row-given P x.shape.groups L few_groups.0 few_groups.1 D;
+            margins = margins_are P x.shape.groups L few_groups.0 few_groups.1 D;
+          })

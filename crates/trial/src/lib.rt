@@ -1,4 +1,4 @@
-// A day tried on an index of which the outline is known: the checks, the rows of the groups at k, the records in turn, the margins.
+// A day tried on an opened index: the checks, the rows of the groups at k, the records in turn, the margins.
 #![tactic(auto)]
 
 ghost use Rattle.std.specs.Prelude.{◌≡◌, ◌+◌, ◌*◌, ◌<◌, length};
@@ -6,30 +6,28 @@ ghost use Rattle.truss.specs.Limits.{max_accounts};
 ghost use Rattle.truss.specs.Bets.{records_in};
 ghost use Rattle.columns.specs.Columns.{entry_bound, COLUMNS};
 ghost use Rattle.columns.specs.Wiping.{zeros};
-ghost use Rattle.stored.specs.Rows.{graph_in, Outlined};
+ghost use Rattle.stored.specs.Opening.{graph};
 ghost use Rattle.trial.specs.Trial.{BytesOf, CloseAsks, CloseGives, InGives, NumbersOf};
 
 use columns::account_room;
 use day::check::day_fault;
 use day::play::play;
-use index::open::Outline;
-use index::{Reply, answered};
+use limits::refusal::Refusal;
 use limits::{MARGIN_BYTES, RECORD_BYTES};
 use margins::{list_groups, write_bytes, write_margins};
 use pools::pool_rows;
+use stored::opened::Index;
 
-// What a day comes to: its refusal, 0 if it has none; how many groups at k there are; the last limit.
+// What a day comes to: how many groups at k there are, and the last limit.
 #[derive(Clone, Copy)]
 struct Closing {
-    refusal: u32,
     groups: usize,
     limit: usize,
 }
 
 // A day of so many records without a fault: played, if there is room for the margins. Rows of n + 1, n and n numbers are lent, the last with zeros.
 fn close_with(
-    s: &[u8],
-    o: Outline,
+    index: Index,
     records: &[u8],
     count: usize,
     k: usize,
@@ -40,35 +38,26 @@ fn close_with(
     start: &mut [u32],
     end: &mut [u32],
     own: &mut [u32],
-) -> Closing
-    requires close_asks { CloseAsks s.now o records.now count k opening taken.old w.old }
-    requires start_len { length start.old ≡ o.n + 1 }
-    requires end_len { length end.old ≡ o.n }
+) -> Result<Closing, Refusal>
+    requires close_asks { CloseAsks index records.now count k opening taken.old w.old }
+    requires start_len { length start.old ≡ index.n + 1 }
+    requires end_len { length end.old ≡ index.n }
     requires own_value { own.old ≡ zeros (max_accounts + 1) }
-    ensures { CloseGives (graph_in s.now) o.m (records_in records.now) k opening room taken.old taken.new result.refusal result.groups result.limit w.new }
+    ensures { CloseGives (graph index.entry) index.entry.m (records_in records.now) k opening room taken.old taken.new result w.new }
 {
-    pool_rows(s, o, k, w, start, end);
-    let m = o.m;
-    let groups = list_groups(w, m, o.groups);
+    pool_rows(index, k, w, start, end);
+    let m = index.m;
+    let groups = list_groups(w, m, index.groups);
     if room < groups {
-        return Closing {
-            refusal: 12,
-            groups: 0,
-            limit: 0,
-        };
+        return Err(Refusal::NoRoom);
     }
     let limit = play(records, count, w, m, start, end, own, taken, opening);
-    Closing {
-        refusal: 0,
-        groups,
-        limit,
-    }
+    Ok(Closing { groups, limit })
 }
 
 // The same, with rows of its own.
 fn close(
-    s: &[u8],
-    o: Outline,
+    index: Index,
     records: &[u8],
     count: usize,
     k: usize,
@@ -76,17 +65,16 @@ fn close(
     taken: &mut [u8],
     room: usize,
     w: &mut [u32],
-) -> Closing
-    requires { CloseAsks s.now o records.now count k opening taken.old w.old }
-    ensures { CloseGives (graph_in s.now) o.m (records_in records.now) k opening room taken.old taken.new result.refusal result.groups result.limit w.new }
+) -> Result<Closing, Refusal>
+    requires { CloseAsks index records.now count k opening taken.old w.old }
+    ensures { CloseGives (graph index.entry) index.entry.m (records_in records.now) k opening room taken.old taken.new result w.new }
 {
-    let n = o.n;
+    let n = index.n;
     let mut start = account_room();
     let mut end = account_room();
     let mut own = account_room();
     close_with(
-        s,
-        o,
+        index,
         records,
         count,
         k,
@@ -102,90 +90,63 @@ fn close(
 
 // A day with its checks: 10, 16, 15, by record 9, 15, then 12.
 fn try_in(
-    s: &[u8],
-    o: Outline,
+    index: Index,
     records: &[u8],
     k: usize,
     opening: usize,
     taken: &mut [u8],
     room: usize,
     w: &mut [u32],
-) -> Closing
-    requires outlined { Outlined s.now o }
-    requires w_value { w.old ≡ zeros (COLUMNS * o.m) }
+) -> Result<Closing, Refusal>
+    requires w_value { w.old ≡ zeros (COLUMNS * index.m) }
     requires opening_lt_entry_bound { opening < entry_bound }
-    ensures { InGives (graph_in s.now) o.m (records_in records.now) k opening room taken.old taken.new result.refusal result.groups result.limit w.new }
+    ensures { InGives (graph index.entry) index.entry.m (records_in records.now) k opening room taken.old taken.new result w.new }
 {
-    let f = day_fault(records, o.n, k, opening);
-    if f != 0 {
-        return Closing {
-            refusal: f,
-            groups: 0,
-            limit: 0,
-        };
-    }
+    day_fault(records, index.n, k, opening)?;
     let count = records.len() / RECORD_BYTES;
     if taken.len() < count {
-        return Closing {
-            refusal: 12,
-            groups: 0,
-            limit: 0,
-        };
+        return Err(Refusal::NoRoom);
     }
-    close(s, o, records, count, k, opening, taken, room, w)
+    close(index, records, count, k, opening, taken, room, w)
 }
 
-// With margins as numbers.
+// The number of margins written, as numbers.
 pub fn try_of(
-    s: &[u8],
-    o: Outline,
+    index: Index,
     records: &[u8],
     k: usize,
     opening: usize,
     taken: &mut [u8],
     margins: &mut [i64],
     w: &mut [u32],
-) -> Reply
-    requires outlined { Outlined s.now o }
-    requires w_value { w.old ≡ zeros (COLUMNS * o.m) }
+) -> Result<u32, Refusal>
+    requires w_value { w.old ≡ zeros (COLUMNS * index.m) }
     requires opening_lt_entry_bound { opening < entry_bound }
-    ensures numbers_of_lem { NumbersOf (graph_in s.now) (records_in records.now) k opening taken.old margins.old result taken.new margins.new }
+    ensures numbers_of_lem { NumbersOf (graph index.entry) (records_in records.now) k opening taken.old margins.old result taken.new margins.new }
     ensures w_len_unchanged { length w.new ≡ length w.old }
 {
-    let t = try_in(s, o, records, k, opening, taken, margins.len(), w);
-    let refusal = t.refusal;
-    if refusal != 0 {
-        return answered(refusal, 0);
-    }
-    let groups = t.groups;
-    write_margins(margins, w, o.m, groups, t.limit);
-    answered(0, groups as u32)
+    let closing = try_in(index, records, k, opening, taken, margins.len(), w)?;
+    write_margins(margins, w, index.m, closing.groups, closing.limit);
+    Ok(closing.groups as u32)
 }
 
-// With margins as bytes.
+// The same, as bytes. What the two share is `try_in`; each has its own room and its own call that writes, and a closure for them would be longer than both.
 pub fn try_bytes_of(
-    s: &[u8],
-    o: Outline,
+    index: Index,
     records: &[u8],
     k: usize,
     opening: usize,
     taken: &mut [u8],
     margins: &mut [u8],
     w: &mut [u32],
-) -> Reply
-    requires outlined { Outlined s.now o }
-    requires w_value { w.old ≡ zeros (COLUMNS * o.m) }
+) -> Result<u32, Refusal>
+    requires w_value { w.old ≡ zeros (COLUMNS * index.m) }
     requires opening_lt_entry_bound { opening < entry_bound }
-    ensures bytes_of { BytesOf (graph_in s.now) (records_in records.now) k opening taken.old margins.old result taken.new margins.new }
+    ensures bytes_of { BytesOf (graph index.entry) (records_in records.now) k opening taken.old margins.old result taken.new margins.new }
     ensures w_len_unchanged { length w.new ≡ length w.old }
 {
     let room = margins.len() / MARGIN_BYTES;
-    let t = try_in(s, o, records, k, opening, taken, room, w);
-    let refusal = t.refusal;
-    if refusal != 0 {
-        return answered(refusal, 0);
-    }
-    let groups = t.groups;
-    write_bytes(margins, w, o.m, groups, t.limit);
-    answered(0, groups as u32)
+    let closing = try_in(index, records, k, opening, taken, room, w)?;
+    write_bytes(margins, w, index.m, closing.groups, closing.limit);
+    Ok(closing.groups as u32)
 }

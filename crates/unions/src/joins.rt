@@ -5,27 +5,13 @@ ghost use Rattle.unions.specs.Joins.{UnitePre, united, JoinAsks, JoinGives};
 use crate::roots::find;
 use columns::{HALF, JOIN_ENDS, JOIN_WEIGHT, PARENT, get, put};
 
-// The lesser of two numbers.
-pub fn lesser(a: usize, b: usize) -> usize
-    ensures { result ≡ min a b }
-{
-    if a < b { a } else { b }
-}
-
-// The greater of two numbers.
-pub fn greater(a: usize, b: usize) -> usize
-    ensures { result ≡ max a b }
-{
-    if a < b { b } else { a }
-}
-
 // The greater of the roots a and b gets the lesser for a parent; the join of e and f is the next of the forest.
 fn unite(w: &mut [u32], m: usize, a: usize, b: usize, e: usize, f: usize, k: usize, joins: usize)
     requires { UnitePre m a b e f k joins w.old }
     ensures { w.new ≡ united m a b e f k joins w.old }
 {
-    let x = lesser(a, b);
-    let y = greater(a, b);
+    let x = a.min(b);
+    let y = a.max(b);
     put(w, m, PARENT, y, x);
     put(w, m, JOIN_ENDS, joins, e * HALF + f);
     put(w, m, JOIN_WEIGHT, joins, k);

@@ -20,6 +20,7 @@ pub fn find(w: &mut [u32], m: usize, from: usize) -> usize
 {
     let mut x = from;
     let mut p = get(w, m, PARENT, x);
+    // A while: where the climb ends is what it finds, so there is no range to name.
     while p != x {
         x = halve(w, m, x, p);
         p = get(w, m, PARENT, x);

@@ -1,5 +1,4 @@
 -- What the readers and writers of records say.
 pub mod Wire
-pub mod WireLaws
 pub mod Writing
 pub mod RowBytes

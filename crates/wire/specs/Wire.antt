@@ -1,16 +1,16 @@
--- The body length of a kind, as the code answers it, and what a whole record takes up. Assumes nothing.
-use Rattle.std.specs.Prelude.{◌≡◌, true, ◌&&◌, List, ℕ, ◌+◌, ◌≤◌, eqb, leb, length}
-use Rattle.std.proofs.Common.{subst, leb-true}
+-- The table of kinds beyond its known ones, and what a whole record takes up. Assumes nothing.
+use Rattle.std.specs.Prelude.{◌≡◌, ◌≢◌, refl, zero, suc, true, ◌&&◌, List, ℕ, ◌+◌, ◌≤◌, eqb, leb, length}
+use Rattle.std.proofs.Common.{subst, leb-true, arith}
 use Rattle.std.proofs.Math.Option.{Option, none, some}
-use Rattle.truss.specs.Record.{body_length, byte_at, holds_body, whole}
+use Rattle.std.proofs.lemmas.List.{get_or_past}
+use Rattle.truss.specs.Record.{body_lengths, body_length, byte_at, holds_body, whole}
 use Rattle.laws.proofs.Lists.{and_right}
-use Rattle.wire.specs.declared.Body.{Body}
-use Rattle.wire.specs.declared.Body.TheVariants.{Length, Unknown}
 
--- an answer of `body_length` in the definitions' words
-unfoldable pub body_of : Body → Option ℕ
-body_of (Length l) = some l
-body_of Unknown = none
+-- a kind that is not in the table has no body length
+pub unknown : (k : ℕ) → k ≢ 1 → k ≢ 2 → k ≢ 3 → k ≢ 4 → k ≢ 5 → k ≢ 6 → k ≢ 7 → body_length k ≡ none
+unfolding body_length
+unknown zero a b c d e f g = refl
+unknown (suc k) a b c d e f g = get_or_past body_lengths (suc k) none (omega arith)
 
 -- above every place that is looked at in a file
 abbrev pub place_bound : ℕ

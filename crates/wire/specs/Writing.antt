@@ -1,7 +1,7 @@
 -- Bytes written over a list, and their laws: each part is written straight after the part before it. Assumes nothing.
-use Rattle.std.specs.Prelude.{◌≡◌, refl, ◌≢◌, Bool, true, false, not, List, [], ◌∷◌, ◌++◌, map, ℕ, zero, suc, ◌+◌, ◌*◌, ◌-◌, ◌≤◌, ◌<◌, get_or, take, set}
+use Rattle.std.specs.Prelude.{◌≡◌, refl, Bool, true, false, not, List, [], ◌∷◌, ◌++◌, map, ℕ, zero, suc, ◌+◌, ◌*◌, ◌-◌, ◌≤◌, ◌<◌, get_or, take, set}
 use Rattle.std.proofs.Math.Path.{sym, ap}
-use Rattle.std.proofs.Common.{◌∙◌, append_assoc, append-nil, add-zero, zero-add, add-one, arith, length-drop, take-append-drop, drop_of_length-le, take_all, take_at, drop_at, take-suc, get_or-take}
+use Rattle.std.proofs.Common.{◌∙◌, append_assoc, append-nil, add-zero, zero-add, add-one, arith, length-drop, take-append-drop, drop_of_length-le, take_all, take_at, drop_at, take-suc}
 use Rattle.std.proofs.Math.ListN.{length, drop, length-append}
 use Rattle.std.proofs.Math.Seq.{length-take-le, drop-drop}
 use Rattle.std.proofs.lemmas.List.{set_split}
@@ -141,16 +141,6 @@ tells_yes p = record { yes_is = λ _. p; no_is = λ q. absurd (let z : ◌≡◌
 
 pub tells_no : {P : Type 0} → ¬ P → Tells false P
 tells_no n = record { yes_is = λ q. absurd (let z : ◌≡◌ {A = ℕ} 0 1 = cc in omega arith); no_is = λ _. n }
-
--- the front of s is rec, as far as i
-pub stands_more : (s rec : List ℕ) (i : ℕ) → length rec ≤ length s → i < length rec → take i s ≡ take i rec → get_or s i 0 ≡ get_or rec i 0 → take (i + 1) s ≡ take (i + 1) rec
-stands_more s rec i fits l q e = rw (add-one, take-suc s i 0 (omega arith), take-suc rec i 0 l, q, e) refl
-
-pub stands_not : (s rec : List ℕ) (i : ℕ) → i < length rec → get_or s i 0 ≢ get_or rec i 0 → ¬ (take (length rec) s ≡ rec)
-stands_not s rec i l ne q = ne (sym (get_or-take (length rec) s i 0 l) ∙ ap (λ (x : List ℕ). get_or x i 0) q)
-
-pub stands_all : (s rec : List ℕ) (i : ℕ) → length rec ≤ i → i ≤ length rec → take i s ≡ take i rec → take (length rec) s ≡ rec
-stands_all s rec i a b q = let e : i ≡ length rec = omega arith in rw (← e) (q ∙ take_all i rec (omega arith))
 
 -- a test that is turned round
 pub turned_true : (b : Bool) → not b ≡ true → b ≡ false

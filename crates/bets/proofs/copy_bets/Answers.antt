@@ -4,7 +4,7 @@ use Rattle.bets.specs.Row.{copied_none, copied_more}
 use Rattle.bets.proofs.copy_bets.Goals as goal
 
 pub loop-i-init : goal.loop-i-init
-loop-i-init c = (omega arith, copied_none c.args.row.now c.args.bets.now)
+loop-i-init c = copied_none c.args.row.now c.args.bets.now
 
 pub loop-i-preserved : goal.loop-i-preserved
-loop-i-preserved c = (omega (arith, c.loop-i-test.true), copied_more c.args.row.now c.args.bets.now c.loop-i.i (omega (arith, c.loop-i-test.true, c.requires.0)) (omega (arith, c.loop-i-test.true, c.requires.1)) c.loop-i.invariant.1 c.put_bet.ensures)
+loop-i-preserved c = copied_more c.args.row.now c.args.bets.now c.loop-i.i (omega arith) (omega arith) c.loop-i.invariant c.put_bet.ensures

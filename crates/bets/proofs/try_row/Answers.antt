@@ -6,28 +6,26 @@ use lib.ListN.{take}
 use lib.Seq.{length-take-le}
 use Rattle.truss.specs.Limits.{record_length}
 use Rattle.truss.specs.Bets.{records_in}
-use Rattle.index.specs.Open.{index_links, opened_is, not_opened, opened_blank}
-use Rattle.stored.specs.Rows.{opened_shape, opened_graph}
-use Rattle.trial.specs.Trial.{numbers_7, numbers_of_lem}
+use Rattle.stored.specs.Opening.{opens_ok, opens_err, handed_no_index}
+use Rattle.trial.specs.Trial.{few_m, numbers_7, numbers_of_lem}
 use Rattle.bets.proofs.try_row.Goals as goal
 
 pub overflow_mul-size : goal.overflow_mul-size
-overflow_mul-size c = omega (arith, index_links _ _ _ (opened_is _ c.«open».ensures.open_says c.in-Index.is).head)
-
-pub slice_bounds-try_of-end : goal.slice_bounds-try_of-end
-slice_bounds-try_of-end c = sym (length-take-le _ _ c.requires)
+overflow_mul-size c = omega (arith, few_m c.in_ok-opened.opened)
 
 pub slice_bounds-work-end : goal.slice_bounds-work-end
-slice_bounds-work-end c = omega (arith, index_links _ _ _ (opened_is _ c.«open».ensures.open_says c.in-Index.is).head)
+slice_bounds-work-end c = omega (arith, few_m c.in_ok-opened.opened)
 
-pub slice_bounds-try_of-end-in-Index : goal.slice_bounds-try_of-end-in-Index
-slice_bounds-try_of-end-in-Index c = sym (length-take-le _ _ (omega (arith, index_links _ _ _ (opened_is _ c.«open».ensures.open_says c.in-Index.is).head)))
+pub slice_bounds-try_of-end-2 : goal.slice_bounds-try_of-end-2
+slice_bounds-try_of-end-2 c = sym (length-take-le _ _ (omega (arith, few_m c.in_ok-opened.opened)))
 
 pub try_of-requires : goal.try_of-requires
-try_of-requires c = record { outlined = opened_shape (opened_is _ c.«open».ensures.open_says c.in-Index.is); w_value = opened_blank _ _ (opened_is _ c.«open».ensures.open_says c.in-Index.is) c.«open».ensures.work_after; opening_lt_entry_bound = omega (arith, c.ranges.limit) }
+try_of-requires c = record { w_value = (opens_ok _ _ c.«open».ensures.opens c.in_ok-opened.was).1; opening_lt_entry_bound = omega (arith, c.ranges.limit) }
 
-pub returns-in-NoIndex : goal.returns-in-NoIndex
-returns-in-NoIndex c = numbers_7 c.args.index.now c.args.k c.args.limit c.args.taken.now (records_in (take (record_length * c.args.count) c.args.row.now)) c.args.margins.now (not_opened _ c.«open».ensures.open_says c.in-NoIndex.is) c.answered.ensures
+pub returns-in_err-opened : goal.returns-in_err-opened
+returns-in_err-opened c =
+    let O = c.«open».ensures.opens in
+    numbers_7 c.args.index.now c.args.k c.args.limit c.args.taken.now (records_in (take (record_length * c.args.count) c.args.row.now)) c.args.margins.now c.from_residual.result (opens_err _ _ O c.in_err-opened.was).1 (handed_no_index _ _ c.from_residual.result O c.in_err-opened.was c.from_residual.ensures.1)
 
-pub returns-in-Index : goal.returns-in-Index
-returns-in-Index c = numbers_of_lem c.args.index.now c.args.k c.args.limit c.args.taken.now (records_in (take (record_length * c.args.count) c.args.row.now)) c.args.margins.now (opened_graph (opened_is _ c.«open».ensures.open_says c.in-Index.is)) c.try_of.ensures.numbers_of_lem
+pub returns : goal.returns
+returns c = numbers_of_lem c.args.index.now c.args.k c.args.limit c.args.taken.now (records_in (take (record_length * c.args.count) c.args.row.now)) c.args.margins.now c.try_of.result (opens_ok _ _ c.«open».ensures.opens c.in_ok-opened.was).0 c.try_of.ensures.numbers_of_lem

@@ -1,16 +1,13 @@
 -- `changes::put_in` meets its contract. Assumes nothing.
 use Rattle.truss.specs.Change.{put_in}
-use Rattle.index.specs.Open.{opened_is, not_opened}
-use Rattle.stored.specs.Rows.{opened_shape, opened_graph}
+use Rattle.stored.specs.Opening.{opens_ok, opens_err, handed_no_index}
 use Rattle.changes.specs.Calls.{changes_7, changes_of}
-use borrow.Author.Rules.{rules}
 use Rattle.changes.proofs.put_in.Goals as goal
 
-pub put_in_of-requires : goal.put_in_of-requires
-put_in_of-requires c = record { outlined = opened_shape (opened_is _ c.«open».ensures.open_says c.in-Index.is); max_links_in_bounds = search rules }
+pub returns-in_err-opened : goal.returns-in_err-opened
+returns-in_err-opened c =
+    let O = c.«open».ensures.opens in
+    changes_7 (put_in c.args.a c.args.b) c.args.index.now c.args.out.now c.from_residual.result (opens_err _ _ O c.in_err-opened.was).1 (handed_no_index _ _ c.from_residual.result O c.in_err-opened.was c.from_residual.ensures.1)
 
-pub returns-in-NoIndex : goal.returns-in-NoIndex
-returns-in-NoIndex c = changes_7 (put_in c.args.a c.args.b) c.args.index.now c.args.out.now (not_opened _ c.«open».ensures.open_says c.in-NoIndex.is) c.answered.ensures
-
-pub returns-in-Index : goal.returns-in-Index
-returns-in-Index c = changes_of (put_in c.args.a c.args.b) c.args.index.now c.args.out.now (opened_graph (opened_is _ c.«open».ensures.open_says c.in-Index.is)) c.put_in_of.ensures
+pub returns : goal.returns
+returns c = changes_of (put_in c.args.a c.args.b) c.args.index.now c.args.out.now c.put_in_of.result (opens_ok _ _ c.«open».ensures.opens c.in_ok-opened.was).0 c.put_in_of.ensures

@@ -1,9 +1,9 @@
 -- `counting::touch_higher` meets its contract. Assumes nothing.
-use Rattle.counting.specs.Ends.{Walked}
+use Rattle.counting.specs.Ends.{Walked, pointer}
 use Rattle.counting.proofs.touch_higher.Given as goal
 
-abbrev pub invariant-loop-q : goal.invariant-loop-q
-invariant-loop-q l = Walked l.s l.m l.count l.v l.q l.initial.w l.w
+abbrev pub invariant-loop-next : goal.invariant-loop-next
+invariant-loop-next l = Walked l.index.bytes.now l.index.m l.index.groups l.v (pointer l.next) l.initial.w l.w
 
-abbrev pub decreases-loop-q : goal.decreases-loop-q
-decreases-loop-q l = l.q
+abbrev pub decreases-loop-next : goal.decreases-loop-next
+decreases-loop-next l = pointer l.next

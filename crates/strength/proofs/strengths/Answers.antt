@@ -1,5 +1,4 @@
 -- `strength::strengths` meets its contract. Assumes nothing.
-use mathlib.Core.Path.{sym}
 use native.Mathlib.Omega.{arith}
 use lib.Seq.{length-take-le}
 use Rattle.strength.specs.Whole.{strengths_none, strengths_all, work_pre}
@@ -7,16 +6,6 @@ use Rattle.strength.proofs.strengths.Goals as goal
 
 pub returns-then-m-eq0 : goal.returns-then-m-eq0
 returns-then-m-eq0 c = λ G N. strengths_none N c.if-m-eq0.true
-
-pub slice_bounds-work-end : goal.slice_bounds-work-end
-slice_bounds-work-end c = sym (length-take-le _ _ (omega (arith, c.requires.1.small)))
-
-pub slice_bounds-work-end-2 : goal.slice_bounds-work-end-2
-slice_bounds-work-end-2 c = sym (length-take-le _ _ (omega (arith, c.requires.1.small)))
-
-pub work-lookups-requires : goal.work-lookups-requires
-work-lookups-requires c = let N = c.requires.1 in
-    (c.requires.0, work_pre N c.if-m-eq0.false (length-take-le _ _ (omega (arith, N.small))) (length-take-le _ _ (omega (arith, N.small))))
 
 pub returns : goal.returns
 returns c = λ G N.

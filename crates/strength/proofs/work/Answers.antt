@@ -2,10 +2,6 @@
 use Rattle.strength.specs.Whole.{work_count, work_peel, work_done}
 use Rattle.strength.proofs.work.Goals as goal
 
-pub count_triangles-lookups-requires : goal.count_triangles-lookups-requires
-count_triangles-lookups-requires c = let P = c.requires.1 in
-    (c.requires.0, work_count P (c.lists.ensures.0 _ P.named) c.lists.auto.next c.lists.ensures.1)
-
 pub peel-requires : goal.peel-requires
 peel-requires c = let P = c.requires.1 in
     let L = c.lists.ensures.0 _ P.named in

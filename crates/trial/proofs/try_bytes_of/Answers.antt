@@ -8,17 +8,14 @@ use Rattle.truss.specs.Bets.{margin_bytes}
 use Rattle.wire.specs.Writing.{written_start}
 use Rattle.trial.proofs.try_bytes_of.Goals as goal
 
-pub try_in-t-requires : goal.try_in-t-requires
-try_in-t-requires c = record { outlined = c.requires.outlined; w_value = c.requires.w_value; opening_lt_entry_bound = c.requires.opening_lt_entry_bound }
-
-pub returns-then-refusal-ne0 : goal.returns-then-refusal-ne0
-returns-then-refusal-ne0 c = record { bytes_of = gives_refused c.try_in-t.ensures (concat_map margin_bytes) c.args.margins.now c.if-refusal-ne0.true c.answered.ensures; w_len_unchanged = c.w-1.given }
+pub returns-in_err-closing-clause-bytes_of : goal.returns-in_err-closing-clause-bytes_of
+returns-in_err-closing-clause-bytes_of c = gives_refused c.try_in.ensures (concat_map margin_bytes) c.args.margins.now _ c.from_residual.result c.in_err-closing.was c.from_residual.ensures.1
 
 pub write_bytes-requires : goal.write_bytes-requires
-write_bytes-requires c = record { row_given = closing_row c.try_in-t.ensures c.if-refusal-ne0.false; margin_length_in_bounds = omega (arith, (closing_room c.try_in-t.ensures c.if-refusal-ne0.false).0) }
+write_bytes-requires c = record { row_given = closing_row c.try_in.ensures c.in_ok-closing.was; margin_length_in_bounds = omega (arith, (closing_room c.try_in.ensures c.in_ok-closing.was).0) }
 
-pub overflow_cast-groups : goal.overflow_cast-groups
-overflow_cast-groups c = omega (arith, (closing_room c.try_in-t.ensures c.if-refusal-ne0.false).1, sized_few (shape_sized c.requires.outlined))
+pub overflow_cast-result : goal.overflow_cast-result
+overflow_cast-result c = omega (arith, (closing_room c.try_in.ensures c.in_ok-closing.was).1, sized_few (shape_sized c.args.index.shape))
 
-pub returns : goal.returns
-returns c = record { bytes_of = gives_done c.try_in-t.ensures c.if-refusal-ne0.false (concat_map margin_bytes) c.args.margins.now c.answered-2.ensures (c.write_bytes.ensures ∙ written_start _ _); w_len_unchanged = c.w-1.given }
+pub returns-clause-bytes_of : goal.returns-clause-bytes_of
+returns-clause-bytes_of c = gives_done c.try_in.ensures c.in_ok-closing.was (concat_map margin_bytes) c.args.margins.now (c.write_bytes.ensures ∙ written_start _ _)

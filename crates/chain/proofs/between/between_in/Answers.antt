@@ -12,16 +12,16 @@ pub way_between-way-requires : goal.way_between-way-requires
 way_between-way-requires c = (graph_in c.args.s.now, c.args.k, in_way c.requires c.load_strong.ensures)
 
 pub overflow_mul-len : goal.overflow_mul-len
-overflow_mul-len c = omega (arith, write_few (c.way_between-way.ensures _ _ (in_way c.requires c.load_strong.ensures)).asks)
+overflow_mul-len c = omega (arith, c.triangles.ensures, write_few (c.way_between-way.ensures _ _ (in_way c.requires c.load_strong.ensures)).asks)
 
 pub overflow_add-len : goal.overflow_add-len
-overflow_add-len c = omega (arith, write_few (c.way_between-way.ensures _ _ (in_way c.requires c.load_strong.ensures)).asks)
+overflow_add-len c = omega (arith, c.triangles.ensures, write_few (c.way_between-way.ensures _ _ (in_way c.requires c.load_strong.ensures)).asks)
 
 pub returns-then-out-len : goal.returns-then-out-len
-returns-then-out-len c = in_short c.requires (c.way_between-way.ensures _ _ (in_way c.requires c.load_strong.ensures)) _ c.if-out-len.true
+returns-then-out-len c = rw c.triangles.ensures (in_short c.requires (c.way_between-way.ensures _ _ (in_way c.requires c.load_strong.ensures)) _ (rw c.triangles.ensures at c.if-out-len.true))
 
 pub write_chain-requires : goal.write_chain-requires
-write_chain-requires c = record { write_asks = (c.way_between-way.ensures _ _ (in_way c.requires c.load_strong.ensures)).asks; count_in_bounds = omega (arith, c.if-out-len.false) }
+write_chain-requires c = record { write_asks = (c.way_between-way.ensures _ _ (in_way c.requires c.load_strong.ensures)).asks; count_in_bounds = omega (arith, c.triangles.ensures, c.if-out-len.false) }
 
 pub returns : goal.returns
-returns c = in_fits c.requires (c.way_between-way.ensures _ _ (in_way c.requires c.load_strong.ensures)) _ _ (omega (arith, c.if-out-len.false)) c.write_chain.ensures
+returns c = rw c.triangles.ensures (in_fits c.requires (c.way_between-way.ensures _ _ (in_way c.requires c.load_strong.ensures)) _ _ (omega (arith, c.triangles.ensures, c.if-out-len.false)) c.write_chain.ensures)

@@ -1,35 +1,27 @@
 -- `chain::between::way_between` meets its contract. Assumes nothing.
-use mathlib.Core.Path.{sym}
 use native.Mathlib.Omega.{arith}
 use lib.Seq.{length-take-le}
-use Rattle.chain.specs.Between.{way-first, way_second, way_no_first, way_no_second, way_lead, way-done}
+use Rattle.chain.specs.Between.{way-first, way_second, way_no_first, way_no_second, way_lead, way-done, way_empty}
 use Rattle.chain.proofs.between.way_between.Goals as goal
 
-pub find_pair-e-requires : goal.find_pair-e-requires
-find_pair-e-requires c = (_, way-first c.requires.2)
+pub returns-in_err-e : goal.returns-in_err-e
+returns-in_err-e c = λ G k P. rw c.from_residual.ensures (way_no_first P _ (c.in_err-e.ensures _ (way-first P)))
 
-pub returns-then-e-eq0 : goal.returns-then-e-eq0
-returns-then-e-eq0 c = λ G k P. way_no_first P _ (c.find_pair-e.ensures _ (way-first P)) c.if-e-eq0.true
+pub returns-in_err-f : goal.returns-in_err-f
+returns-in_err-f c = λ G k P. rw c.from_residual-in_err-f.ensures (way_no_second P _ (c.in_err-f.ensures _ (way_second P)))
 
-pub find_pair-f-requires : goal.find_pair-f-requires
-find_pair-f-requires c = (_, way_second c.requires.2)
-
-pub returns-then-f-eq0 : goal.returns-then-f-eq0
-returns-then-f-eq0 c = λ G k P. way_no_second P _ (c.find_pair-f.ensures _ (way_second P)) c.if-f-eq0.true
-
-pub slice_bounds-lead_in-end : goal.slice_bounds-lead_in-end
-slice_bounds-lead_in-end c = let P = c.requires.2 in sym (length-take-le _ _ (omega (arith, P.given.named.small)))
-
-pub slice_bounds-lead_in-end-2 : goal.slice_bounds-lead_in-end-2
-slice_bounds-lead_in-end-2 c = let P = c.requires.2 in sym (length-take-le _ _ (omega (arith, P.given.named.small)))
-
-pub lead_in-count-requires : goal.lead_in-count-requires
-lead_in-count-requires c = let P = c.requires.2 in
-    (_, way_lead P (c.find_pair-e.ensures _ (way-first P)) c.if-e-eq0.false (c.find_pair-f.ensures _ (way_second P)) c.if-f-eq0.false (length-take-le _ _ (omega (arith, P.given.named.small))) (length-take-le _ _ (omega (arith, P.given.named.small))))
+pub lead_in-requires : goal.lead_in-requires
+lead_in-requires c = let P = c.requires.2 in
+    (_, way_lead P (c.in_ok-e.ensures _ (way-first P)) (c.in_ok-f.ensures _ (way_second P)) (length-take-le _ _ (omega (arith, P.given.named.small))) (length-take-le _ _ (omega (arith, P.given.named.small))))
 
 pub returns : goal.returns
 returns c = λ G k P.
-    let E = c.find_pair-e.ensures _ (way-first P) in
-    let F = c.find_pair-f.ensures _ (way_second P) in
-    way-done P E c.if-e-eq0.false F c.if-f-eq0.false
-    (c.lead_in-count.ensures _ (way_lead P E c.if-e-eq0.false F c.if-f-eq0.false (length-take-le _ _ (omega (arith, P.given.named.small))) (length-take-le _ _ (omega (arith, P.given.named.small)))))
+    let E = c.in_ok-e.ensures _ (way-first P) in
+    let F = c.in_ok-f.ensures _ (way_second P) in
+    way-done P E F (c.in_ok-count.ensures _ (way_lead P E F (length-take-le _ _ (omega (arith, P.given.named.small))) (length-take-le _ _ (omega (arith, P.given.named.small)))))
+
+pub returns-in_err-count : goal.returns-in_err-count
+returns-in_err-count c = λ G k P.
+    let E = c.in_ok-e.ensures _ (way-first P) in
+    let F = c.in_ok-f.ensures _ (way_second P) in
+    rw c.from_residual-in_err-count.ensures (way_empty (way-done P E F (c.in_err-count.ensures _ (way_lead P E F (length-take-le _ _ (omega (arith, P.given.named.small))) (length-take-le _ _ (omega (arith, P.given.named.small)))))))

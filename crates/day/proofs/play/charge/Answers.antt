@@ -5,28 +5,22 @@ use Rattle.day.specs.Sums.{charged_none, charged_more, charge_below, charge_size
 use Rattle.day.proofs.play.charge.Goals as goal
 
 pub loop-j-init : goal.loop-j-init
-loop-j-init c = (omega arith, omega (arith, c.requires.safe.rises), charged_none)
+loop-j-init c = charged_none
 
 pub near-g-requires : goal.near-g-requires
-near-g-requires c = record { i_bound = omega (arith, c.loop-j-test.true, c.requires.safe.fits); w_len = charge_size c.requires c.loop-j.invariant.2 c.loop-j.invariant.0 c.loop-j-test.true refl }
+near-g-requires c = record { i_bound = omega (arith, c.loop-j-test.true, c.requires.safe.fits); w_len = charge_size c.requires c.loop-j.invariant c.loop-j.auto.j c.loop-j-test.true refl }
 
 pub get-sum-requires : goal.get-sum-requires
-get-sum-requires c = record { c_bound = omega arith; i_lt_m = charge_below c.requires c.loop-j.invariant.2 c.loop-j.invariant.0 c.loop-j-test.true c.near-g.ensures.0; w_len = charge_size c.requires c.loop-j.invariant.2 c.loop-j.invariant.0 c.loop-j-test.true c.near-g.ensures.0 }
+get-sum-requires c = record { c_bound = omega arith; i_lt_m = charge_below c.requires c.loop-j.invariant c.loop-j.auto.j c.loop-j-test.true c.near-g.ensures.0; w_len = charge_size c.requires c.loop-j.invariant c.loop-j.auto.j c.loop-j-test.true c.near-g.ensures.0 }
 
 pub overflow_add-sum : goal.overflow_add-sum
-overflow_add-sum c = omega (arith, charge_room c.requires c.loop-j.invariant.2 c.loop-j.invariant.0 c.loop-j-test.true c.near-g.ensures.0 c.get-sum.ensures.0)
+overflow_add-sum c = omega (arith, charge_room c.requires c.loop-j.invariant c.loop-j.auto.j c.loop-j-test.true c.near-g.ensures.0 c.get-sum.ensures.0)
 
 pub put-requires : goal.put-requires
-put-requires c = record { c_bound = omega arith; i_lt_m = charge_below c.requires c.loop-j.invariant.2 c.loop-j.invariant.0 c.loop-j-test.true c.near-g.ensures.0; x_lt_entry_bound = charge_room c.requires c.loop-j.invariant.2 c.loop-j.invariant.0 c.loop-j-test.true c.near-g.ensures.0 c.get-sum.ensures.0; w_len = charge_size c.requires c.loop-j.invariant.2 c.loop-j.invariant.0 c.loop-j-test.true c.near-g.ensures.0 }
-
-pub overflow_add-j : goal.overflow_add-j
-overflow_add-j c = omega (arith, c.loop-j-test.true, c.requires.safe.fits, c.requires.safe.few)
-
-pub loop-j-smaller : goal.loop-j-smaller
-loop-j-smaller c = omega (arith, c.loop-j-test.true)
+put-requires c = record { c_bound = omega arith; i_lt_m = charge_below c.requires c.loop-j.invariant c.loop-j.auto.j c.loop-j-test.true c.near-g.ensures.0; x_lt_entry_bound = charge_room c.requires c.loop-j.invariant c.loop-j.auto.j c.loop-j-test.true c.near-g.ensures.0 c.get-sum.ensures.0; w_len = charge_size c.requires c.loop-j.invariant c.loop-j.auto.j c.loop-j-test.true c.near-g.ensures.0 }
 
 pub loop-j-preserved : goal.loop-j-preserved
-loop-j-preserved c = (omega (arith, c.loop-j.invariant.0), omega (arith, c.loop-j-test.true), charged_more c.requires c.loop-j.invariant.2 c.loop-j.invariant.0 c.loop-j-test.true c.near-g.ensures.0 c.get-sum.ensures.0 c.put.ensures)
+loop-j-preserved c = charged_more c.requires c.loop-j.invariant c.loop-j.auto.j c.loop-j-test.true c.near-g.ensures.0 c.get-sum.ensures.0 c.put.ensures
 
 pub returns : goal.returns
-returns c = let e : c.loop-j.j ≡ c.args.to = omega (arith, c.loop-j-test.false, c.loop-j.invariant.1) in rw (← e) c.loop-j.invariant.2
+returns c = let e : c.loop-j.j ≡ c.args.to = omega (arith, c.loop-j-test.false, c.loop-j.auto.j-end c.requires.safe.rises) in rw (← e) c.loop-j.invariant

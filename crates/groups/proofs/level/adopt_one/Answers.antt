@@ -1,33 +1,14 @@
 -- `groups::level::adopt_one` meets its contract. Assumes nothing.
-use Rattle.groups.specs.Naming.{adopt_known, adopt_least, adopt_passed, adopt_done}
+use Rattle.groups.specs.Naming.{adopt_least, adopt_passed, adopt_done}
 use Rattle.groups.specs.Marking.{at_find}
 use native.Mathlib.Omega.{arith}
-use mathlib.Core.Path.{◌∙◌}
 use Rattle.groups.proofs.level.adopt_one.Goals as goal
-
-pub get-requires : goal.get-requires
-get-requires c = record { c_bound = omega arith; i_lt_m = omega (arith, c.requires.5.g_in, c.requires.5.c_in); w_len = c.requires.5.ready.at.given.size_is }
-
-pub returns-then-get-ne-NO_GROUP : goal.returns-then-get-ne-NO_GROUP
-returns-then-get-ne-NO_GROUP c = adopt_known c.get.ensures.0 c.if-get-ne-NO_GROUP.true
-
-pub get-l-requires : goal.get-l-requires
-get-l-requires c = record { c_bound = omega arith; i_lt_m = omega (arith, c.requires.5.g_in, c.requires.5.c_in); w_len = c.requires.5.ready.at.given.size_is }
 
 pub find-r-requires : goal.find-r-requires
 find-r-requires c = at_find c.requires.5.ready.at (adopt_least c.requires.5 c.get-l.ensures.0)
 
-pub get-requires-2 : goal.get-requires-2
-get-requires-2 c = record { c_bound = omega arith; i_lt_m = c.find-r.ensures.below; w_len = c.find-r.ensures.steady.frame.length_is ∙ c.requires.5.ready.at.given.size_is }
-
 pub returns-then-get-k : goal.returns-then-get-k
 returns-then-get-k c = adopt_passed c.get.ensures.0 c.if-get-ne-NO_GROUP.false c.get-l.ensures.0 c.find-r.ensures c.get-2.ensures.0 c.if-get-k.true (omega (arith, c.requires.5.g_in, c.requires.5.c_in))
-
-pub get-h-requires : goal.get-h-requires
-get-h-requires c = record { c_bound = omega arith; i_lt_m = c.find-r.ensures.below; w_len = c.find-r.ensures.steady.frame.length_is ∙ c.requires.5.ready.at.given.size_is }
-
-pub put-requires : goal.put-requires
-put-requires c = record { c_bound = omega arith; i_lt_m = omega (arith, c.requires.5.g_in, c.requires.5.c_in); x_lt_entry_bound = c.get-h.ensures.1; w_len = c.find-r.ensures.steady.frame.length_is ∙ c.requires.5.ready.at.given.size_is }
 
 pub returns : goal.returns
 returns c = adopt_done c.get.ensures.0 c.if-get-ne-NO_GROUP.false c.get-l.ensures.0 c.find-r.ensures c.get-2.ensures.0 c.if-get-k.false c.get-h.ensures.0 (omega (arith, c.requires.5.g_in, c.requires.5.c_in)) c.requires.5.ready.at.given.size_is c.put.ensures

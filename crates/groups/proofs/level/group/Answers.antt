@@ -1,9 +1,6 @@
 -- `groups::level::group` meets its contract. Assumes nothing.
-use Rattle.groups.specs.Level.{group_marks, group_numbers, group_names, group_adopts, group_gives}
+use Rattle.groups.specs.Level.{group_numbers, group_names, group_adopts, group_gives}
 use Rattle.groups.proofs.level.group.Goals as goal
-
-pub mark_roots-requires : goal.mark_roots-requires
-mark_roots-requires c = (c.requires.0, c.requires.1, group_marks c.requires.4)
 
 pub number_roots-groups-requires : goal.number_roots-groups-requires
 number_roots-groups-requires c = (c.requires.0, c.requires.1, c.requires.2, c.requires.3, group_numbers c.mark_roots.ensures c.requires.4)

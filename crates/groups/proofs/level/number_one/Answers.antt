@@ -4,9 +4,6 @@ use native.Mathlib.Omega.{arith}
 use mathlib.Core.Path.{refl, ◌∙◌}
 use Rattle.groups.proofs.level.number_one.Goals as goal
 
-pub get-requires : goal.get-requires
-get-requires c = record { c_bound = omega arith; i_lt_m = c.requires.4.r_in; w_len = c.requires.4.at.given.size_is }
-
 pub returns-then-get-k : goal.returns-then-get-k
 returns-then-get-k c = number_passed c.get.ensures.0 c.if-get-k.true
 

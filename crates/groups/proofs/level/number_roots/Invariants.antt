@@ -1,10 +1,6 @@
 -- `groups::level::number_roots` meets its contract. Assumes nothing.
 use Rattle.groups.specs.Numbering.{NumbersGives}
-use Prim.Native.Nat.{◌-◌, ◌≤◌}
 use Rattle.groups.proofs.level.number_roots.Given as goal
 
 abbrev pub invariant-loop-r : goal.invariant-loop-r
-invariant-loop-r l = (l.r ≤ l.m) × NumbersGives l.m l.k l.r l.from l.g l.initial.w l.w
-
-abbrev pub decreases-loop-r : goal.decreases-loop-r
-decreases-loop-r l = l.m - l.r
+invariant-loop-r l = NumbersGives l.m l.k l.r l.from l.g l.initial.w l.w

@@ -5,9 +5,6 @@ use mathlib.Core.Path.{refl, ◌∙◌}
 use borrow.Author.Rules.{rules}
 use Rattle.groups.proofs.tree.levels.Goals as goal
 
-pub top-k-requires : goal.top-k-requires
-top-k-requires c = record { w_len = c.requires.3.between.growth.given.size_is; m_bound = c.requires.3.between.growth.given.few }
-
 pub loop-k-init : goal.loop-k-init
 loop-k-init c = (refl, refl, λ G o fits P. levels-first P c.top-k.ensures)
 
@@ -16,9 +13,6 @@ level-joins-requires c = (c.requires.0, tree_level (c.loop-k.invariant.2 c.requi
 
 pub group-groups-requires : goal.group-groups-requires
 group-groups-requires c = (c.requires.0, c.args.n, c.requires.1, c.requires.2, tree_group (c.loop-k.invariant.2 c.requires.0 c.requires.1 c.requires.2 c.requires.3) c.loop-k-test.true c.requires.3.rows (omega (arith, c.loop-k.invariant.1, c.requires.3.wide)) c.level-joins.ensures.level_gives)
-
-pub top-k-requires-in-loop-k : goal.top-k-requires-in-loop-k
-top-k-requires-in-loop-k c = record { w_len = c.group-groups.ensures.steady.frame.length_is ∙ c.level-joins.ensures.level_gives.frame.length_is ∙ c.loop-k.invariant.0 ∙ c.requires.3.between.growth.given.size_is; m_bound = c.requires.3.between.growth.given.few }
 
 pub loop-k-smaller : goal.loop-k-smaller
 loop-k-smaller c = tree_less (c.loop-k.invariant.2 c.requires.0 c.requires.1 c.requires.2 c.requires.3) c.loop-k-test.true c.requires.3.rows (omega (arith, c.loop-k.invariant.1, c.requires.3.wide)) c.level-joins.ensures.level_gives c.group-groups.ensures c.top-k-in-loop-k.ensures

@@ -4,9 +4,6 @@ use Rattle.groups.specs.Tree.{given_fits}
 use native.Mathlib.Omega.{arith}
 use Rattle.groups.proofs.tree.tree.Goals as goal
 
-pub work-s-requires : goal.work-s-requires
-work-s-requires c = (c.requires.0, tree_work c.requires.1 (omega arith) (omega arith))
-
 pub tidy-requires : goal.tidy-requires
 tidy-requires c = let D = c.work-s.ensures c.requires.0 c.requires.1.order (given_fits c.requires.1) (tree_work c.requires.1 (omega arith) (omega arith)) in record { w_len = D.given.size_is; joins_le_m = D.within; groups_le_m = tree_fits D; m_bound = c.requires.1.few }
 

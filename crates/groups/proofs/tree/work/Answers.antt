@@ -1,9 +1,6 @@
 -- `groups::tree::work` meets its contract. Assumes nothing.
-use Rattle.groups.specs.Tree.{work_rows, work_levels, given_fits}
+use Rattle.groups.specs.Tree.{work_levels, given_fits}
 use Rattle.groups.proofs.tree.work.Goals as goal
-
-pub rows-requires : goal.rows-requires
-rows-requires c = (c.requires.0, work_rows c.requires.1)
 
 pub levels-requires : goal.levels-requires
 levels-requires c = (c.requires.0, c.requires.1.given.order, given_fits c.requires.1.given, work_levels c.requires.1 c.rows.ensures.rows_gives c.prepare.ensures)

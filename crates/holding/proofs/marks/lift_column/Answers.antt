@@ -1,24 +1,14 @@
 -- `holding::marks::lift_column` meets its contract. Assumes nothing.
-use native.Mathlib.Omega.{arith}
 use mathlib.Core.Path.{◌∙◌}
-use Rattle.holding.specs.Turns.{lift_none, lift_more, lift_done}
-use Rattle.stored.specs.Rows.{sized_few}
+use Rattle.stored.specs.Rows.{shape_sized}
+use Rattle.holding.specs.Turns.{lift_more, lift_done}
 use Rattle.holding.proofs.marks.lift_column.Goals as goal
 
-pub loop-g-init : goal.loop-g-init
-loop-g-init c = (omega arith, lift_none c.requires.sized)
-
 pub lift-requires : goal.lift-requires
-lift-requires c = record { sized = c.requires.sized; w_len = c.loop-g.invariant.1.only.length_is ∙ c.requires.w_len; c_bound = c.requires.c_bound; g_lt_count = c.loop-g-test.true }
-
-pub overflow_add-g : goal.overflow_add-g
-overflow_add-g c = omega (arith, c.loop-g-test.true, (sized_few c.requires.sized).0, (sized_few c.requires.sized).1)
-
-pub loop-g-smaller : goal.loop-g-smaller
-loop-g-smaller c = omega (arith, c.loop-g-test.true)
+lift-requires c = record { w_len = c.loop-g.invariant.only.length_is ∙ c.requires.w_len; c_bound = c.requires.c_bound; g_lt_count = c.loop-g-test.true }
 
 pub loop-g-preserved : goal.loop-g-preserved
-loop-g-preserved c = (omega (arith, c.loop-g-test.true), lift_more c.requires.sized c.loop-g-test.true c.requires.c_bound c.requires.w_len c.loop-g.invariant.1 c.lift.ensures)
+loop-g-preserved c = lift_more (shape_sized c.args.index.shape) c.loop-g-test.true c.requires.c_bound c.requires.w_len c.loop-g.invariant c.lift.ensures
 
 pub returns : goal.returns
-returns c = lift_done c.requires.sized c.loop-g.invariant.1 c.loop-g-test.false c.loop-g.invariant.0
+returns c = lift_done (shape_sized c.args.index.shape) c.loop-g.invariant c.loop-g-test.false c.loop-g.auto.g-end

@@ -1,16 +1,15 @@
 -- `index::read::write_pairs` meets its contract. Assumes nothing.
-use Prim.Native.Nat.{ℕ}
 use mathlib.Core.Path.{◌≡◌, refl, ap, ◌∙◌}
+use Prim.Native.Nat.{◌*◌}
 use native.Mathlib.Omega.{arith}
 use Rattle.truss.specs.LinksFile.{pair_bytes}
 use Rattle.wire.specs.Writing.{written, written_none, written_next, up_to, up_to_more, up_to_length}
 use Rattle.index.specs.Read.{back_bytes}
-use borrow.Author.Rules.{rules}
 use Rattle.index.proofs.read.write_pairs.Goals as goal
 
 pub loop-i-init : goal.loop-i-init
 unfolding up_to
-loop-i-init c = (search rules, search rules, written_none _ _, search rules)
+loop-i-init c = written_none _ _
 
 pub overflow_mul-p : goal.overflow_mul-p
 overflow_mul-p c = omega (arith, c.requires.strong_fit.few, c.loop-i-test.true)
@@ -35,13 +34,5 @@ loop-i-preserved c = let s = c.args.s.now in
     let i = c.loop-i.i in
     let a = c.field_at-a.ensures.0 in
     let b = c.field_at-b.ensures.0 in
-    let same : _ ≡ back_bytes s i = c.pair_record-rec.ensures ∙ (λ j. pair_bytes (record { first = a j; second = b j })) in (
-      search rules,
-      search rules,
-      rw up_to_more (written_next _ _ _ _ {at = c.loop-i.at} c.loop-i.invariant.2 (omega (arith, up_to_length (back_bytes s) 5 (λ j. refl) i)) (omega (arith, c.requires.m_in_bounds)) (c.paste.ensures ∙ ap (written _ 0) same)),
-      search rules,
-    )
-
-pub returns : goal.returns
-returns c = let e : c.loop-i.i ≡ c.args.m = omega arith in
-    c.loop-i.invariant.2 ∙ ap (λ (k : ℕ). written c.args.out.now 0 (up_to (back_bytes c.args.s.now) k)) e
+    let same : _ ≡ back_bytes s i = c.pair_record-rec.ensures ∙ (λ j. pair_bytes (record { first = a j; second = b j })) in
+    rw up_to_more (written_next _ _ _ _ {at = 5 * i} c.loop-i.invariant (omega (arith, up_to_length (back_bytes s) 5 (λ j. refl) i)) (omega (arith, c.requires.m_in_bounds, c.loop-i-test.true)) (c.paste.ensures ∙ ap (written _ 0) same))

@@ -6,15 +6,9 @@ pub seed_hubs-hubs-requires : goal.seed_hubs-hubs-requires
 seed_hubs-hubs-requires c = let p = c.requires in
     (p.0, p.1, _, level_hubs p.2, level_none p.2)
 
-pub begin-requires : goal.begin-requires
-begin-requires c = c.requires.2.tops.top
-
 pub seed-tail-requires : goal.seed-tail-requires
 seed-tail-requires c = let p = c.requires in
     (p.0, c.args.n, p.1, _, level_seeds p.2 c.begin.ensures, c.seed_hubs-hubs.ensures _ _ _ (level_none p.2))
-
-pub overflow_sub-m : goal.overflow_sub-m
-overflow_sub-m c = c.requires.2.tops.top
 
 pub drain-requires : goal.drain-requires
 drain-requires c = let p = c.requires in

@@ -1,47 +1,59 @@
 -- `peeling::peel::peel_levels` meets its contract. The loop begins after the first list is made. Assumes nothing.
+use Rattle.std.proofs.lemmas.Option.{MatchOption-at_none, MatchOption-at_some}
 use Rattle.peeling.specs.Peel.{rested_levels, rested_peeled, levels_start, levels_level, levels-size, levels_list, levels_rise, levels-next, levels_end}
-use Rattle.peeling.specs.Rest.{listed-whole}
+use Rattle.peeling.specs.Rest.{listed-whole, rest_made, rest_cases, rest_falls}
 use native.Mathlib.Omega.{arith}
-use mathlib.Core.Path.{refl}
-use borrow.Author.Rules.{rules}
 use Rattle.peeling.proofs.peel.peel_levels.Goals as goal
 
-pub rest-r-requires : goal.rest-r-requires
-rest-r-requires c = record { w_len = c.requires.1.named.size; m_le_link_bound = c.requires.1.named.few; listed = listed-whole _ refl }
+pub rest-left-requires-clause-listed : goal.rest-left-requires-clause-listed
+rest-left-requires-clause-listed c = listed-whole _
 
-pub loop-r-init : goal.loop-r-init
-loop-r-init c = (refl, refl, refl, λ G P. levels_start P c.rest-r.ensures.tops c.rest-r.ensures.least)
+pub loop-left-init : goal.loop-left-init
+loop-left-init c =
+    rest_cases _ (λ r. r.place) (λ r. r.least)
+    (λ N. (N.place, λ G P. levels_start P N.rested.tops N.rested.least))
+    (λ r S. (S.small, λ G P. levels_start P S.rested.tops S.rested.least))
+    c.rest-left.ensures
 
 pub level-requires : goal.level-requires
-level-requires c = let P = rested_levels c.rest-r.ensures c.requires.1 in
-    let D = c.loop-r.invariant.3 _ P in
-    (c.requires.0, D.0, levels_level P D.1 c.loop-r-test.true)
+level-requires c =
+    let P = rested_levels (rest_made c.rest-left.result (λ r. r.place) (λ r. r.least) c.rest-left.ensures).2 c.requires.1 in
+    let I = MatchOption-at_some _ _ _ c.in-Some.is c.loop-left.invariant in
+    let D = I.1 _ P in
+    (c.requires.0, D.0, levels_level P D.1 I.0)
 
 pub begin-requires : goal.begin-requires
-begin-requires c = (c.loop-r.invariant.3 _ (rested_levels c.rest-r.ensures c.requires.1)).1.tops.top
+begin-requires c =
+    let P = rested_levels (rest_made c.rest-left.result (λ r. r.place) (λ r. r.least) c.rest-left.ensures).2 c.requires.1 in
+    ((MatchOption-at_some _ _ _ c.in-Some.is c.loop-left.invariant).1 _ P).1.tops.top
 
-pub rest-r-requires-in-loop-r : goal.rest-r-requires-in-loop-r
-rest-r-requires-in-loop-r c = let P = rested_levels c.rest-r.ensures c.requires.1 in let D = (c.loop-r.invariant.3 _ P).1 in let e = (c.level.ensures _ _ (levels_level P D c.loop-r-test.true)).1 in record { w_len = levels-size P D e; m_le_link_bound = c.requires.1.named.few; listed = levels_list P D e c.begin.ensures }
+pub rest-left-requires-in-Some : goal.rest-left-requires-in-Some
+rest-left-requires-in-Some c =
+    let P = rested_levels (rest_made c.rest-left.result (λ r. r.place) (λ r. r.least) c.rest-left.ensures).2 c.requires.1 in
+    let I = MatchOption-at_some _ _ _ c.in-Some.is c.loop-left.invariant in
+    let D = (I.1 _ P).1 in
+    let e = (c.level.ensures _ _ (levels_level P D I.0)).1 in
+    record { w_len = levels-size P D e; m_le_link_bound = c.requires.1.named.few; listed = levels_list P D e c.begin.ensures }
 
-pub loop-r-smaller : goal.loop-r-smaller
-loop-r-smaller c = let P = rested_levels c.rest-r.ensures c.requires.1 in
-    let D = (c.loop-r.invariant.3 _ P).1 in
-    let e = (c.level.ensures _ _ (levels_level P D c.loop-r-test.true)).1 in
-    omega (arith, c.loop-r-test.true, levels_rise P D e c.loop-r-test.true c.rest-r-in-loop-r.ensures)
+pub loop-left-smaller : goal.loop-left-smaller
+loop-left-smaller c =
+    let P = rested_levels (rest_made c.rest-left.result (λ r. r.place) (λ r. r.least) c.rest-left.ensures).2 c.requires.1 in
+    let I = MatchOption-at_some _ _ _ c.in-Some.is c.loop-left.invariant in
+    let D = (I.1 _ P).1 in
+    let e = (c.level.ensures _ _ (levels_level P D I.0)).1 in
+    rw c.in-Some.is (rest_falls c.rest-left-in-Some.result (λ r. r.place) (λ r. r.least) I.0 (λ p b R. levels_rise P D e I.0 R) c.rest-left-in-Some.ensures)
 
-pub loop-r-preserved : goal.loop-r-preserved
-loop-r-preserved c = (
-  search rules,
-  search rules,
-  search rules,
-  λ G P.
-      let D = (c.loop-r.invariant.3 G P).1 in
-      let e = c.level.ensures G _ (levels_level P D c.loop-r-test.true) in
-      (e.0, levels-next P D e.1 c.loop-r-test.true c.rest-r-in-loop-r.ensures),
-)
+pub loop-left-preserved : goal.loop-left-preserved
+loop-left-preserved c =
+    let I = MatchOption-at_some _ _ _ c.in-Some.is c.loop-left.invariant in
+    rest_cases c.rest-left-in-Some.result (λ r. r.place) (λ r. r.least)
+    (λ N. (N.place, λ G P. let D = (I.1 G P).1 in let e = c.level.ensures G _ (levels_level P D I.0) in (e.0, levels-next P D e.1 I.0 N.rested)))
+    (λ r S. (S.small, λ G P. let D = (I.1 G P).1 in let e = c.level.ensures G _ (levels_level P D I.0) in (e.0, levels-next P D e.1 I.0 S.rested)))
+    c.rest-left-in-Some.ensures
 
 pub returns : goal.returns
 returns c = λ G P.
-    let R = c.rest-r.ensures in
+    let R = (rest_made c.rest-left.result (λ r. r.place) (λ r. r.least) c.rest-left.ensures).2 in
     let Q = rested_levels R P in
-    rested_peeled R (levels_end Q (c.loop-r.invariant.3 G Q).1 c.loop-r-test.false)
+    let E = MatchOption-at_none _ _ c.in_default.is c.loop-left.invariant in
+    rested_peeled R (levels_end Q (E.1 G Q).1 (omega arith))

@@ -1,42 +1,38 @@
 -- `question::links::group_links` meets its contract. Assumes nothing.
 use native.Mathlib.Omega.{arith}
-use mathlib.Core.Path.{sym, ap, ◌∙◌}
-use Rattle.truss.specs.Graph.{link}
+use mathlib.Core.Path.{◌∙◌, ap, sym}
 use Rattle.truss.specs.Group.{group_at}
-use Rattle.truss.specs.Question.{ask_links, group_links}
-use Rattle.stored.specs.Rows.{graph_in}
-use Rattle.question.specs.Replies.{answer_refused, answer_shown}
-use Rattle.stored.specs.Find.{found_link, found_in, no_such_link}
-use Rattle.question.specs.Links.{F_first, F_second, F_level, F_none, F_is, level_least, shape_groups, shape_few, members_are}
+use Rattle.truss.specs.Refusal.{passed}
+use Rattle.truss.specs.Question.{numbers, answer, ask_links, group_links}
+use Rattle.stored.specs.Opening.{graph}
+use Rattle.question.specs.Checks.{stops, goes_on, level_least, link_is, link_below}
+use Rattle.question.specs.Replies.{handed_on, answer_shown}
+use Rattle.question.specs.Links.{shape_few, members_are}
 use Rattle.question.proofs.links.group_links.Goals as goal
 
-pub returns-then-o-a : goal.returns-then-o-a
-returns-then-o-a c = answer_refused (graph_in c.args.s.now) (ask_links c.args.k c.args.a c.args.b) c.args.out.now (F_first (graph_in c.args.s.now) c.requires.outlined.accounts c.args.a c.args.b c.args.k c.if-o-a.true) c.answered.ensures
+pub returns-in_err-known : goal.returns-in_err-known
+unfolding answer
+returns-in_err-known c = handed_on (graph c.args.index) (ask_links c.args.k c.args.a c.args.b) c.args.out.now c.from_residual.result _ c.from_residual.ensures.1 (stops _ c.in_err-known.ensures)
 
-pub returns-then-o-b : goal.returns-then-o-b
-returns-then-o-b c = answer_refused (graph_in c.args.s.now) (ask_links c.args.k c.args.a c.args.b) c.args.out.now (F_second (graph_in c.args.s.now) c.requires.outlined.accounts c.args.a c.args.b c.args.k c.if-o-a.false c.if-o-b.true) c.answered-then-o-b.ensures
+pub returns-in_err-level : goal.returns-in_err-level
+unfolding answer
+returns-in_err-level c = handed_on (graph c.args.index) (ask_links c.args.k c.args.a c.args.b) c.args.out.now c.from_residual-in_err-level.result _ c.from_residual-in_err-level.ensures.1
+    (goes_on _ c.in_ok-known.ensures ∙ stops _ c.in_err-level.ensures)
 
-pub returns-then-bad_level : goal.returns-then-bad_level
-returns-then-bad_level c = answer_refused (graph_in c.args.s.now) (ask_links c.args.k c.args.a c.args.b) c.args.out.now (F_level (graph_in c.args.s.now) c.requires.outlined.accounts c.args.a c.args.b c.args.k c.if-o-a.false c.if-o-b.false (sym c.bad_level.ensures ∙ c.if-bad_level.true)) c.answered-then-bad_level.ensures
-
-pub find_link-e-requires : goal.find_link-e-requires
-find_link-e-requires c = record { index = c.requires.outlined.groups_at_lem.is_index; s_value = c.requires.outlined.links }
-
-pub returns-then-e-o : goal.returns-then-e-o
-returns-then-e-o c = answer_refused (graph_in c.args.s.now) (ask_links c.args.k c.args.a c.args.b) c.args.out.now (F_none (graph_in c.args.s.now) c.requires.outlined.accounts c.args.a c.args.b c.args.k c.if-o-a.false c.if-o-b.false (sym c.bad_level.ensures ∙ c.if-bad_level.false) (no_such_link (graph_in c.args.s.now) (link c.args.a c.args.b) c.requires.outlined.links c.find_link-e.ensures c.if-e-o.true)) c.answered-then-e-o.ensures
-
-pub group_at-g-requires : goal.group_at-g-requires
-group_at-g-requires c = record { groups_at = c.requires.outlined.groups_at_lem; s_value = c.requires.outlined.groups; min_level_le_k = (level_least c.args.k (sym c.bad_level.ensures ∙ c.if-bad_level.false)); i_bound = found_in (graph_in c.args.s.now) (link c.args.a c.args.b) c.requires.outlined.links c.find_link-e.ensures c.if-e-o.false }
+pub returns-in_err-e : goal.returns-in_err-e
+unfolding answer
+returns-in_err-e c = handed_on (graph c.args.index) (ask_links c.args.k c.args.a c.args.b) c.args.out.now c.from_residual-in_err-e.result _ c.from_residual-in_err-e.ensures.1
+    (goes_on _ c.in_ok-known.ensures ∙ goes_on _ c.in_ok-level.ensures ∙ stops _ c.in_err-e.ensures)
 
 pub mark_members-requires : goal.mark_members-requires
-mark_members-requires c = record { given = shape_groups c.requires.outlined; links = c.requires.outlined.links; level = (level_least c.args.k (sym c.bad_level.ensures ∙ c.if-bad_level.false)); e_in = found_in (graph_in c.args.s.now) (link c.args.a c.args.b) c.requires.outlined.links c.find_link-e.ensures c.if-e-o.false; is_group = c.group_at-g.ensures; size_is = c.requires.w_len }
+mark_members-requires c = record { w_len = c.requires; level = level_least c.args.k c.in_ok-level.ensures; e_bound = link_below (graph c.args.index) c.args.a c.args.b c.in_ok-e.ensures }
 
 pub give-requires : goal.give-requires
-give-requires c = record { size_is = c.mark_members.ensures.size_is; part = omega arith; few = (shape_few c.requires.outlined).1 }
+give-requires c = record { size_is = c.mark_members.ensures.size_is; part = omega arith; few = (shape_few c.args.index.shape).1 }
 
 pub returns : goal.returns
-unfolding group_links
-returns c = answer_shown (graph_in c.args.s.now) (ask_links c.args.k c.args.a c.args.b) c.args.out.now
-    (F_is (graph_in c.args.s.now) c.requires.outlined.accounts c.args.a c.args.b c.args.k c.if-o-a.false c.if-o-b.false (sym c.bad_level.ensures ∙ c.if-bad_level.false) (found_link (graph_in c.args.s.now) (link c.args.a c.args.b) c.requires.outlined.links c.find_link-e.ensures c.if-e-o.false)
-    (members_are c.requires.outlined.links c.mark_members.ensures ∙ ap (group_at (graph_in c.args.s.now) c.args.k) c.find_link-e.ensures))
+unfolding answer group_links
+returns c = answer_shown (graph c.args.index) (ask_links c.args.k c.args.a c.args.b) c.args.out.now _
+    (goes_on _ c.in_ok-known.ensures ∙ goes_on _ c.in_ok-level.ensures ∙ goes_on _ c.in_ok-e.ensures
+    ∙ ap (λ xs. passed (numbers xs)) (sym (members_are c.args.index.shape.links c.mark_members.ensures ∙ ap (group_at (graph c.args.index) c.args.k) (link_is (graph c.args.index) c.args.a c.args.b c.in_ok-e.ensures))))
     c.give.ensures

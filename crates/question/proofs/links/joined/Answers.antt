@@ -1,36 +1,37 @@
 -- `question::links::joined` meets its contract. Assumes nothing.
 use native.Mathlib.Omega.{arith}
+use mathlib.Core.Path.{◌∙◌, ap, sym}
 use Rattle.truss.specs.Graph.{link}
-use Rattle.truss.specs.Question.{ask_joined}
-use Rattle.stored.specs.Rows.{graph_in}
-use Rattle.question.specs.Replies.{answer_refused, answer_number}
-use Rattle.stored.specs.Find.{found_link, found_in, no_such_link}
-use Rattle.question.specs.Links.{B_outside, B_1, B_2, B_3, B_4, B_inside, B_first, B_second, B_is, shape_groups}
+use Rattle.truss.specs.Refusal.{passed}
+use Rattle.truss.specs.Question.{number, answer, ask_joined}
+use Rattle.stored.specs.Opening.{graph}
+use Rattle.question.specs.Checks.{stops, goes_on, first_stops, first_passes, link_there, link_is, link_below}
+use Rattle.question.specs.Replies.{handed_on, answer_number}
 use Rattle.question.proofs.links.joined.Goals as goal
 
-pub returns-then-o-a : goal.returns-then-o-a
-returns-then-o-a c = λ out. answer_refused (graph_in c.args.s.now) (ask_joined c.args.a c.args.b c.args.c c.args.d) out (B_outside (graph_in c.args.s.now) c.requires.accounts c.args.a c.args.b c.args.c c.args.d (B_1 (graph_in c.args.s.now) c.requires.accounts c.args.a c.args.b c.args.c c.args.d c.if-o-a.true)) c.answered.ensures
+pub returns-in_err-known : goal.returns-in_err-known
+unfolding answer
+returns-in_err-known c = λ out. handed_on (graph c.args.index) (ask_joined c.args.a c.args.b c.args.c c.args.d) out c.from_residual.result _ c.from_residual.ensures.1 (stops _ c.in_err-known.ensures)
 
-pub returns-then-o-b : goal.returns-then-o-b
-returns-then-o-b c = λ out. answer_refused (graph_in c.args.s.now) (ask_joined c.args.a c.args.b c.args.c c.args.d) out (B_outside (graph_in c.args.s.now) c.requires.accounts c.args.a c.args.b c.args.c c.args.d (B_2 (graph_in c.args.s.now) c.requires.accounts c.args.a c.args.b c.args.c c.args.d c.if-o-a.false c.if-o-b.true)) c.answered-then-o-b.ensures
+pub returns-in_err-e : goal.returns-in_err-e
+unfolding answer
+returns-in_err-e c = λ out. handed_on (graph c.args.index) (ask_joined c.args.a c.args.b c.args.c c.args.d) out c.from_residual-in_err-e.result _ c.from_residual-in_err-e.ensures.1
+    (goes_on _ c.in_ok-known.ensures ∙ first_stops _ _ c.in_err-e.ensures)
 
-pub returns-then-o-c : goal.returns-then-o-c
-returns-then-o-c c = λ out. answer_refused (graph_in c.args.s.now) (ask_joined c.args.a c.args.b c.args.c c.args.d) out (B_outside (graph_in c.args.s.now) c.requires.accounts c.args.a c.args.b c.args.c c.args.d (B_3 (graph_in c.args.s.now) c.requires.accounts c.args.a c.args.b c.args.c c.args.d c.if-o-a.false c.if-o-b.false c.if-o-c.true)) c.answered-then-o-c.ensures
-
-pub returns-then-o-d : goal.returns-then-o-d
-returns-then-o-d c = λ out. answer_refused (graph_in c.args.s.now) (ask_joined c.args.a c.args.b c.args.c c.args.d) out (B_outside (graph_in c.args.s.now) c.requires.accounts c.args.a c.args.b c.args.c c.args.d (B_4 (graph_in c.args.s.now) c.requires.accounts c.args.a c.args.b c.args.c c.args.d c.if-o-a.false c.if-o-b.false c.if-o-c.false c.if-o-d.true)) c.answered-then-o-d.ensures
-
-pub returns-then-e-o : goal.returns-then-e-o
-returns-then-e-o c = λ out. answer_refused (graph_in c.args.s.now) (ask_joined c.args.a c.args.b c.args.c c.args.d) out (B_first (graph_in c.args.s.now) c.requires.accounts c.args.a c.args.b c.args.c c.args.d (B_inside (graph_in c.args.s.now) c.requires.accounts c.args.a c.args.b c.args.c c.args.d c.if-o-a.false c.if-o-b.false c.if-o-c.false c.if-o-d.false) (no_such_link (graph_in c.args.s.now) (link c.args.a c.args.b) c.requires.links c.find_link-e.ensures c.if-e-o.true)) c.answered-then-e-o.ensures
-
-pub returns-then-f-o : goal.returns-then-f-o
-returns-then-f-o c = λ out. answer_refused (graph_in c.args.s.now) (ask_joined c.args.a c.args.b c.args.c c.args.d) out (B_second (graph_in c.args.s.now) c.requires.accounts c.args.a c.args.b c.args.c c.args.d (B_inside (graph_in c.args.s.now) c.requires.accounts c.args.a c.args.b c.args.c c.args.d c.if-o-a.false c.if-o-b.false c.if-o-c.false c.if-o-d.false) (found_link (graph_in c.args.s.now) (link c.args.a c.args.b) c.requires.links c.find_link-e.ensures c.if-e-o.false) (no_such_link (graph_in c.args.s.now) (link c.args.c c.args.d) c.requires.links c.find_link-f.ensures c.if-f-o.true)) c.answered-then-f-o.ensures
+pub returns-in_err-f : goal.returns-in_err-f
+unfolding answer
+returns-in_err-f c = λ out. handed_on (graph c.args.index) (ask_joined c.args.a c.args.b c.args.c c.args.d) out c.from_residual-in_err-f.result _ c.from_residual-in_err-f.ensures.1
+    (goes_on _ c.in_ok-known.ensures ∙ first_passes _ _ c.in_ok-e.ensures ∙ stops _ c.in_err-f.ensures)
 
 pub joined_up_to-requires : goal.joined_up_to-requires
-joined_up_to-requires c = record { groups_given = shape_groups c.requires; e_bound = (found_in (graph_in c.args.s.now) (link c.args.a c.args.b) c.requires.links c.find_link-e.ensures c.if-e-o.false); f_bound = (found_in (graph_in c.args.s.now) (link c.args.c c.args.d) c.requires.links c.find_link-f.ensures c.if-f-o.false) }
+joined_up_to-requires c = record { e_bound = link_below (graph c.args.index) c.args.a c.args.b c.in_ok-e.ensures; f_bound = link_below (graph c.args.index) c.args.c c.args.d c.in_ok-f.ensures }
 
 pub overflow_cast-joined_up_to : goal.overflow_cast-joined_up_to
 overflow_cast-joined_up_to c = omega (arith, c.joined_up_to.ensures.small)
 
 pub returns : goal.returns
-returns c = λ out. answer_number (graph_in c.args.s.now) (ask_joined c.args.a c.args.b c.args.c c.args.d) out (B_is (graph_in c.args.s.now) c.requires.accounts c.args.a c.args.b c.args.c c.args.d (B_inside (graph_in c.args.s.now) c.requires.accounts c.args.a c.args.b c.args.c c.args.d c.if-o-a.false c.if-o-b.false c.if-o-c.false c.if-o-d.false) (found_link (graph_in c.args.s.now) (link c.args.a c.args.b) c.requires.links c.find_link-e.ensures c.if-e-o.false) (found_link (graph_in c.args.s.now) (link c.args.c c.args.d) c.requires.links c.find_link-f.ensures c.if-f-o.false) (c.joined_up_to.ensures.is (link c.args.a c.args.b) (link c.args.c c.args.d) (found_link (graph_in c.args.s.now) (link c.args.a c.args.b) c.requires.links c.find_link-e.ensures c.if-e-o.false) c.find_link-e.ensures c.find_link-f.ensures)) c.answered-2.ensures
+unfolding answer
+returns c = λ out. answer_number (graph c.args.index) (ask_joined c.args.a c.args.b c.args.c c.args.d) out
+    (goes_on _ c.in_ok-known.ensures ∙ first_passes _ _ c.in_ok-e.ensures ∙ goes_on _ c.in_ok-f.ensures
+    ∙ ap (λ x. passed (number x)) (sym (c.joined_up_to.ensures.is (link c.args.a c.args.b) (link c.args.c c.args.d) (link_there (graph c.args.index) c.args.a c.args.b c.in_ok-e.ensures) (link_is (graph c.args.index) c.args.a c.args.b c.in_ok-e.ensures) (link_is (graph c.args.index) c.args.c c.args.d c.in_ok-f.ensures))))
+    c.from.ensures

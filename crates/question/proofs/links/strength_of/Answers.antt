@@ -1,27 +1,23 @@
 -- `question::links::strength_of` meets its contract. Assumes nothing.
-use native.Mathlib.Omega.{arith}
-use Rattle.truss.specs.Graph.{link}
-use Rattle.truss.specs.Question.{ask_strength}
-use Rattle.stored.specs.Rows.{graph_in, proper}
-use Rattle.question.specs.Replies.{answer_refused}
-use Rattle.stored.specs.Find.{found_in, no_such_link}
-use Rattle.question.specs.Links.{A_first, A_second, A_none, A_found}
+use Rattle.truss.specs.Question.{answer, ask_strength}
+use Rattle.stored.specs.Rows.{proper}
+use Rattle.stored.specs.Opening.{graph}
+use Rattle.question.specs.Checks.{stops, goes_on, link_there, link_is, link_below}
+use Rattle.question.specs.Replies.{handed_on}
+use Rattle.question.specs.Links.{A_found}
+use mathlib.Core.Path.{◌∙◌}
 use Rattle.question.proofs.links.strength_of.Goals as goal
 
-pub returns-then-o-a : goal.returns-then-o-a
-returns-then-o-a c = λ out. answer_refused (graph_in c.args.s.now) (ask_strength c.args.a c.args.b) out (A_first (graph_in c.args.s.now) c.requires.accounts c.args.a c.args.b c.if-o-a.true) c.answered.ensures
+pub returns-in_err-known : goal.returns-in_err-known
+unfolding answer
+returns-in_err-known c = λ out. handed_on (graph c.args.index) (ask_strength c.args.a c.args.b) out c.from_residual.result _ c.from_residual.ensures.1 (stops _ c.in_err-known.ensures)
 
-pub returns-then-o-b : goal.returns-then-o-b
-returns-then-o-b c = λ out. answer_refused (graph_in c.args.s.now) (ask_strength c.args.a c.args.b) out (A_second (graph_in c.args.s.now) c.requires.accounts c.args.a c.args.b c.if-o-b.true) c.answered-then-o-b.ensures
-
-pub find_link-e-requires : goal.find_link-e-requires
-find_link-e-requires c = record { index = c.requires.groups_at_lem.is_index; s_value = c.requires.links }
-
-pub returns-then-e-o : goal.returns-then-e-o
-returns-then-e-o c = λ out. answer_refused (graph_in c.args.s.now) (ask_strength c.args.a c.args.b) out (A_none (graph_in c.args.s.now) c.requires.accounts c.args.a c.args.b c.if-o-a.false c.if-o-b.false (no_such_link (graph_in c.args.s.now) (link c.args.a c.args.b) c.requires.links c.find_link-e.ensures c.if-e-o.true)) c.answered-then-e-o.ensures
+pub returns-in_err-e : goal.returns-in_err-e
+unfolding answer
+returns-in_err-e c = λ out. handed_on (graph c.args.index) (ask_strength c.args.a c.args.b) out c.from_residual-in_err-e.result _ c.from_residual-in_err-e.ensures.1 (goes_on _ c.in_ok-known.ensures ∙ stops _ c.in_err-e.ensures)
 
 pub strength_and_support-requires : goal.strength_and_support-requires
-strength_and_support-requires c = record { index = c.requires.groups_at_lem.is_index; s_value = c.requires.links; e_lt_m = omega (arith, c.requires.links, found_in (graph_in c.args.s.now) (link c.args.a c.args.b) c.requires.links c.find_link-e.ensures c.if-e-o.false) }
+strength_and_support-requires c = link_below (graph c.args.index) c.args.a c.args.b c.in_ok-e.ensures
 
 pub returns : goal.returns
-returns c = A_found (graph_in c.args.s.now) c.requires.accounts c.args.a c.args.b (proper c.requires.groups_at_lem.is_index) c.requires.links c.find_link-e.ensures c.if-e-o.false c.strength_and_support.ensures
+returns c = A_found c.args.a c.args.b (proper c.args.index.shape.groups_at_lem.is_index) (link_there (graph c.args.index) c.args.a c.args.b c.in_ok-e.ensures) (link_is (graph c.args.index) c.args.a c.args.b c.in_ok-e.ensures) c.strength_and_support.ensures

@@ -1,10 +1,6 @@
 -- `question::named::keep_strongest` meets its contract. Assumes nothing.
-use Prim.Native.Nat.{◌-◌, ◌≤◌}
 use Rattle.question.specs.Named.{KeepState, AsStrong}
 use Rattle.question.proofs.named.keep_strongest.Given as goal
 
 abbrev pub invariant-loop-g : goal.invariant-loop-g
-invariant-loop-g l = (l.g ≤ l.count) × KeepState l.s l.m l.count l.g (AsStrong l.s l.best) l.initial.w l.w
-
-abbrev pub decreases-loop-g : goal.decreases-loop-g
-decreases-loop-g l = l.count - l.g
+invariant-loop-g l = KeepState l.index.bytes.now l.index.m l.index.groups l.g (AsStrong l.index.bytes.now l.best) l.initial.w l.w

@@ -1,25 +1,30 @@
 -- `question::named::strongest_groups` meets its contract. Assumes nothing.
-use Rattle.truss.specs.Question.{ask_strongest}
-use Rattle.stored.specs.Rows.{graph_in}
-use Rattle.question.specs.Replies.{answer_refused, answer_shown}
-use Rattle.question.specs.Named.{D_fault, D_is, D_marked}
+use mathlib.Core.Path.{◌∙◌, ap, refl, sym}
+use Rattle.truss.specs.Refusal.{passed}
+use Rattle.truss.specs.Question.{answer, numbers, listed, ask_strongest}
+use Rattle.stored.specs.Opening.{graph}
+use Rattle.question.specs.Replies.{handed_on, answer_shown}
+use Rattle.question.specs.Named.{D_marked, names_pass, names_stop}
 use Rattle.question.proofs.named.strongest_groups.Goals as goal
 
-pub returns-then-f-ne0 : goal.returns-then-f-ne0
-returns-then-f-ne0 c = answer_refused (graph_in c.args.s.now) (ask_strongest c.args.named.now) c.args.out.now (D_fault (graph_in c.args.s.now) c.requires.outlined.accounts c.args.named.now c.hold_named-f.ensures.fault c.if-f-ne0.true) c.answered.ensures
+pub returns-in_err-hold_named : goal.returns-in_err-hold_named
+unfolding answer
+returns-in_err-hold_named c = handed_on (graph c.args.index) (ask_strongest c.args.named.now) c.args.out.now c.from_residual.result _ c.from_residual.ensures.1 (names_stop (graph c.args.index) c.args.named.now _ _ c.in_err-hold_named.ensures.checks)
 
 pub greatest-best-requires : goal.greatest-best-requires
-greatest-best-requires c = record { sized = record { groups_at_lem = c.requires.outlined.groups_at_lem; links = c.requires.outlined.links; groups = c.requires.outlined.groups }; w_len = c.hold_named-f.ensures.size_is }
+greatest-best-requires c = c.in_ok-hold_named.ensures.size_is
 
 pub keep_strongest-requires : goal.keep_strongest-requires
-keep_strongest-requires c = record { sized = record { groups_at_lem = c.requires.outlined.groups_at_lem; links = c.requires.outlined.links; groups = c.requires.outlined.groups }; w_len = c.hold_named-f.ensures.size_is }
+keep_strongest-requires c = c.in_ok-hold_named.ensures.size_is
 
 pub give_groups-requires : goal.give_groups-requires
-give_groups-requires c = record { outlined = c.requires.outlined; w_len = c.keep_strongest.ensures.size_is }
+give_groups-requires c = c.keep_strongest.ensures.size_is
 
 pub returns : goal.returns
+unfolding answer
 returns c = let named = c.args.named.now in
-    let H = c.hold_named-f.ensures.held c.if-f-ne0.false in
-    answer_shown (graph_in c.args.s.now) (ask_strongest named) c.args.out.now
-    (D_is H.0 (D_marked _ c.requires.outlined.groups H.1 c.greatest-best.ensures (c.keep_strongest.ensures.marks named H.1)))
+    let H = c.in_ok-hold_named.ensures.held refl in
+    answer_shown (graph c.args.index) (ask_strongest named) c.args.out.now _
+    (names_pass (graph c.args.index) c.args.named.now _ c.in_ok-hold_named.ensures.checks
+    ∙ ap (λ xs. passed (numbers (listed (graph c.args.index) xs))) (sym (D_marked _ c.args.index.shape.groups H c.greatest-best.ensures (c.keep_strongest.ensures.marks named H))))
     c.give_groups.ensures

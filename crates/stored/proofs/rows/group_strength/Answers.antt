@@ -19,4 +19,4 @@ pub bounds-s-at : goal.bounds-s-at
 bounds-s-at c = omega (arith, c.requires.groups_at.place, group_room c.requires.groups_at.is_index c.args.g c.requires.g_bound)
 
 pub returns : goal.returns
-returns c = (c.wide.ensures.0 ∙ ap (λ (x : ℕ). byte_at c.args.s.now (x + 6 * c.args.g + 3)) c.requires.groups_at.place ∙ group_strength_is c.requires.groups_at.is_index c.args.g c.requires.g_bound, omega (arith, c.wide.ensures.1))
+returns c = (c.from.ensures ∙ ap (λ (x : ℕ). byte_at c.args.s.now (x + 6 * c.args.g + 3)) c.requires.groups_at.place ∙ group_strength_is c.requires.groups_at.is_index c.args.g c.requires.g_bound, omega (arith, c.from.ensures, c.type_inv.s (c.args.at + 6 * c.args.g + 3)))

@@ -1,6 +1,7 @@
 -- `stored::rows::link_strength` meets its contract. Assumes nothing.
 use native.Mathlib.Omega.{arith}
 use mathlib.Core.Path.{◌∙◌}
+use Prim.Native.Nat.{◌+◌, ◌*◌}
 use Rattle.stored.specs.Rows.{few_links, link_room, strength_is}
 use Rattle.stored.proofs.rows.link_strength.Goals as goal
 
@@ -17,4 +18,4 @@ pub bounds-s-i : goal.bounds-s-i
 bounds-s-i c = omega (arith, link_room c.requires.index c.args.i c.requires.i_bound)
 
 pub returns : goal.returns
-returns c = (c.wide.ensures.0 ∙ strength_is c.requires.index c.args.i c.requires.i_bound, omega (arith, c.wide.ensures.1))
+returns c = (c.from.ensures ∙ strength_is c.requires.index c.args.i c.requires.i_bound, omega (arith, c.from.ensures, c.type_inv.s (5 + 8 * c.args.i + 5)))

@@ -3,4 +3,4 @@ use mathlib.Core.Path.{refl, ◌∙◌}
 use Rattle.unions.proofs.joins.unite.Goals as goal
 
 pub returns : goal.returns
-returns c = c.put-3.ensures ∙ (rw (c.put-2.ensures, c.put.ensures, c.lesser-x.ensures, c.greater-y.ensures) refl)
+returns c = c.put-3.ensures ∙ (rw (c.put-2.ensures, c.put.ensures, c.min-x.ensures, c.max-y.ensures) refl)

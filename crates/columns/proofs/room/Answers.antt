@@ -1,8 +1,0 @@
--- `columns::room` meets its contract. Assumes nothing.
-use mathlib.Core.Path.{refl}
-use Rattle.columns.specs.Wiping.{zeros}
-use Rattle.columns.proofs.room.Goals as goal
-
-pub returns : goal.returns
-unfolding zeros
-returns c = refl
