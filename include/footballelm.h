@@ -39,8 +39,8 @@ typedef struct {
 #define FE_LIMIT_MAX 1000000000
 
 /* Bytes of stack that are enough for any call, below the caller's frame. No function calls itself, directly or through others, and each frame has a fixed size, so the
- * deepest row of calls bounds every call, whatever is lent: 147,944 bytes of fe_build, 147,976 of fe_read, 148,024 of a change, 152,840 of a question,
- * 160,328 of fe_try_limit. Summed from the object code (tests/frames) and measured (tests/c/stack.c), not proved. The other 7,608 bytes are for the C library's memset and
+ * deepest row of calls bounds every call, whatever is lent: 147,960 bytes of fe_build, 147,960 of fe_read, 147,992 of a change, 152,552 of a question,
+ * 160,296 of fe_try_limit. Summed from the object code (tests/frames) and measured (tests/c/stack.c), not proved. The other 7,640 bytes are for the C library's memset and
  * memcpy: a first call that had to bind memset took 3,184 of them. A thread needs all this and what its own functions take. */
 #define FE_STACK_MAX 167936
 
