@@ -10,7 +10,7 @@ ghost use Rattle.desk.specs.DeskBytes.{AskBytesGives, ShortGives, TalliesOf};
 
 use index::answers::Answered;
 use limits::refusal::Refusal;
-use limits::{DESK_BYTES, TALLY_BYTES, WINDOWS};
+use limits::{DESK_BYTES, MOST_TALLY, TALLY_BYTES, WINDOWS};
 use question::answer::{Question, answer_from};
 use wire::paste;
 
@@ -24,7 +24,7 @@ struct Desk {
 fn next_tally(t: u32) -> u32
     ensures { result ≡ next_tally t }
 {
-    t.saturating_add(1)
+    t.saturating_add(1).min(MOST_TALLY)
 }
 
 impl Desk {
