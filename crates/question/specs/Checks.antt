@@ -17,7 +17,7 @@ use mathlib.Core.List.Memᴰ.{tail as there}
 use borrow.Author.Tests.{ltb-false}
 use Rattle.limits.specs.declared.refusal.Refusal.{Refusal}
 use Rattle.limits.specs.declared.refusal.Refusal.TheVariants.{NoLink}
-use Rattle.stored.specs.Find.{number_there}
+use Rattle.stored.specs.Find.{number_there, found_link, no_such_link}
 use Rattle.limits.specs.Refusals.{number_of, checked, refusal_in, at_no_place}
 
 pub not_passed : {A : Type 0} {r : Refused} {y : A} → refused r ≡ passed y → ⊥
@@ -95,17 +95,11 @@ level_least k q = ltb-false k min_level (or_left_false (ltb k min_level) (ltb ma
 -- a link that is looked up
 pub looked_up : (G : Graph) (a b : ℕ) {r : Option ℕ} {x : Result ℕ Refusal} → r ≡ number_there G (link a b) → x ≡ ok_or r NoLink → OneCheck (no_link G a b) 11 (link_number G (link a b)) x
 unfolding number_of
-looked_up G a b {r} {x} q h = go (member G.links (link a b)) refl
-  where
-    go : (t : Bool) → member G.links (link a b) ≡ t → OneCheck (no_link G a b) 11 (link_number G (link a b)) x
-    go true e =
-        let s : r ≡ Some (link_number G (link a b)) = q ∙ rw e refl in
-        let u : x ≡ Ok (link_number G (link a b)) = h ∙ rw s refl in
-        rw u (lets_pass (rw e refl))
-    go false e =
-        let s : r ≡ None = q ∙ rw e refl in
-        let u : x ≡ Err NoLink = h ∙ rw s refl in
-        rw u (refuses (rw e refl) refl)
+looked_up G a b {r = Some i} {x = x} q h =
+    let f = found_link G (link a b) q refl in
+    let u : x ≡ Ok (link_number G (link a b)) = h ∙ ap (λ (k : ℕ). ok_or (Some k) NoLink) f.1 in
+    rw u (lets_pass (rw (f.0) refl))
+looked_up G a b {r = None} {x = x} q h = rw h (refuses (rw (no_such_link G (link a b) q refl) refl) refl)
 
 module _ (G : Graph) (a b : ℕ) {e : ℕ} (q : OneCheck (no_link G a b) 11 (link_number G (link a b)) (Ok e)) where
   pub link_there : member G.links (link a b) ≡ true
