@@ -1,6 +1,8 @@
 // The build, a links file into its index; the opening, whether bytes are an index and what is known of it; the reading, an index back into its links file.
 #![tactic(auto)]
 
+ghost use Rattle.index.specs.Build.{Replies};
+
 pub mod answers;
 pub mod build;
 pub mod open;
@@ -16,4 +18,16 @@ pub struct Reply {
     pub value: u32,
     pub second: u32,
     pub third: u32,
+}
+
+// The four numbers of a reply with one.
+pub fn answered(refusal: u32, value: u32) -> Reply
+    ensures { Replies result refusal value }
+{
+    Reply {
+        refusal: refusal,
+        value: value,
+        second: 0,
+        third: 0,
+    }
 }

@@ -1,22 +1,10 @@
 // What a call gives back to the C host.
 ghost use Rattle.std.specs.Prelude.{◌≡◌};
 ghost use Rattle.limits.specs.Refusals.{checked, checked_in};
-ghost use Rattle.index.specs.Build.{Replies, reply_in, reply_of};
+ghost use Rattle.index.specs.Build.{reply_in, reply_of};
 
-use crate::Reply;
+use crate::{Reply, answered};
 use limits::refusal::{Fault, Refusal};
-
-// The four numbers of a reply with one.
-fn answered(refusal: u32, value: u32) -> Reply
-    ensures { Replies result refusal value }
-{
-    Reply {
-        refusal: refusal,
-        value: value,
-        second: 0,
-        third: 0,
-    }
-}
 
 impl From<Result<u32, Fault>> for Reply {
     ghost from_gives = { λ given reply. reply_in reply ≡ reply_of (checked_in given) };
