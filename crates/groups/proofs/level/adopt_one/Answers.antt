@@ -1,8 +1,11 @@
 -- `groups::level::adopt_one` meets its contract. Assumes nothing.
-use Rattle.groups.specs.Naming.{adopt_least, adopt_passed, adopt_done}
+use Rattle.groups.specs.Naming.{adopt_known, adopt_least, adopt_passed, adopt_done}
 use Rattle.groups.specs.Marking.{at_find}
 use native.Mathlib.Omega.{arith}
 use Rattle.groups.proofs.level.adopt_one.Goals as goal
+
+pub returns-then-get-ne-NO_GROUP : goal.returns-then-get-ne-NO_GROUP
+returns-then-get-ne-NO_GROUP c = adopt_known c.get.ensures.0 c.if-get-ne-NO_GROUP.true
 
 pub find-r-requires : goal.find-r-requires
 find-r-requires c = at_find c.requires.5.ready.at (adopt_least c.requires.5 c.get-l.ensures.0)
