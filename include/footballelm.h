@@ -41,7 +41,7 @@ typedef struct {
 /* Bytes of stack that are enough for any call, below the caller's frame. No function calls itself, directly or through others, and each frame has a fixed size, so the
  * deepest row of calls bounds every call, whatever is lent: 147,960 bytes of fe_build, 147,960 of fe_read, 147,992 of a change, 152,552 of a question,
  * 160,296 of fe_try_limit. Summed from the object code (tests/frames) and measured (tests/c/stack.c), not proved. The other 7,640 bytes are for the C library's memset and
- * memcpy: a first call that had to bind memset took 3,184 of them. A thread needs all this and what its own functions take. */
+ * memcpy: a first call that had to bind memset took 3,168 of them. A thread needs all this and what its own functions take. */
 #define FE_STACK_MAX 167936
 
 /* Every call:
